@@ -1,0 +1,65 @@
+-- Moved points, in range or not.
+use Rattle.std.proofs.Common.{◌≡◌, ℕ, ◌^◌, Bool, true, false, ◌&&◌, refl, sym, ap, ◌∙◌, arith, ℤ, pos, ◌*ℤ◌, ◌+ℤ◌, List, [], ◌∷◌, get_or, Option, Some, None, IsTrue, w64, lit<, unsigned_abs, ◌≤◌, if◌then◌else◌}
+use Rattle.std.specs.List.{list_all}
+use Rattle.std.proofs.lemmas.Int.{to_z-of_z}
+use Rattle.hd_num.specs.declared.vector.Vec3.{Vec3}
+use Rattle.hd_num.specs.Matrices.{Rows, three, with_last, row_times, column_of, sum_below, is_within}
+use Rattle.hd_num.specs.Points.{point_of, components, bounded_point}
+use Rattle.hd_num.proofs.Sizes.{kept, fits_up_to}
+
+and_false : (b : Bool) → (b && false) ≡ false
+and_false true = refl
+and_false false = refl
+
+kept_within : (z : ℤ) → IsTrue (is_within (2 ^ 30) z) → kept w64 z ≡ z
+kept_within z h = let size : unsigned_abs z ≤ 2 ^ 30 = grind arith in to_z-of_z w64 z (fits_up_to w64 z (2 ^ 30) size (lit< tt))
+
+-- the sum that the code makes for one component
+pub component : (row : List ℤ) (last : ℤ) (m : Rows) (j : ℕ) (column : List ℤ) (sum : ℤ) → column ≡ column_of m j → sum ≡ sum_below 4 (λ k. with_last row last k *ℤ get_or column k (pos 0)) → sum ≡ row_times (with_last row last) m j
+component row last m j column sum e h = h ∙ ap (λ c. sum_below 4 (λ k. with_last row last k *ℤ get_or c k (pos 0))) e
+
+-- a component that was refused, and one that was kept
+pub refused : (b : Bool) (z : ℤ) → ◌≡◌ {A = Option ℤ} None (if b then Some z else None) → b ≡ false
+refused true z e = cc
+refused false z e = refl
+
+pub was_within : (b : Bool) (x z : ℤ) → ◌≡◌ {A = Option ℤ} (Some x) (if b then Some z else None) → b ≡ true
+was_within true x z e = refl
+was_within false x z e = cc
+
+pub was_kept : (b : Bool) (x z : ℤ) → ◌≡◌ {A = Option ℤ} (Some x) (if b then Some z else None) → x ≡ z
+was_kept true x z e = cc
+was_kept false x z e = cc
+
+-- what the code answers for a row that is in range, and for one that isn't
+pub kept_point : (row : List ℤ) → IsTrue (list_all (is_within (2 ^ 30)) (components (point_of row))) → Some (point_of row) ≡ bounded_point (point_of row)
+unfolding bounded_point
+kept_point row e = rw e refl
+
+pub refused_point : (row : List ℤ) → list_all (is_within (2 ^ 30)) (components (point_of row)) ≡ false → None ≡ bounded_point (point_of row)
+unfolding bounded_point
+refused_point row e = rw e refl
+
+-- the number, and none where it is out of range
+abbrev pub bounded_number : ℤ → Option ℤ
+bounded_number z = if is_within (2 ^ 30) z then Some z else None
+
+module _ (a b c : ℤ) where
+  pub refused_first : None ≡ bounded_number a → None ≡ bounded_point (point_of (a ∷ b ∷ c ∷ []))
+  refused_first e = let out = refused (is_within (2 ^ 30) a) a e in refused_point (a ∷ b ∷ c ∷ []) (rw out refl)
+
+  pub refused_second : None ≡ bounded_number b → None ≡ bounded_point (point_of (a ∷ b ∷ c ∷ []))
+  refused_second e = let out = refused (is_within (2 ^ 30) b) b e in refused_point (a ∷ b ∷ c ∷ []) (rw out (and_false (is_within (2 ^ 30) a)))
+
+  pub refused_third : None ≡ bounded_number c → None ≡ bounded_point (point_of (a ∷ b ∷ c ∷ []))
+  refused_third e =
+      let out = refused (is_within (2 ^ 30) c) c e in
+      refused_point (a ∷ b ∷ c ∷ []) (rw (out, and_false (is_within (2 ^ 30) b), and_false (is_within (2 ^ 30) a)) refl)
+
+  pub kept_three : (x y z : ℤ) → Some x ≡ bounded_number a → Some y ≡ bounded_number b → Some z ≡ bounded_number c → Some (point_of (kept w64 x ∷ kept w64 y ∷ kept w64 z ∷ [])) ≡ bounded_point (point_of (a ∷ b ∷ c ∷ []))
+  kept_three x y z ex ey ez =
+      let wx = was_within (is_within (2 ^ 30) a) x a ex in
+      let wy = was_within (is_within (2 ^ 30) b) y b ey in
+      let wz = was_within (is_within (2 ^ 30) c) z c ez in
+      let all : IsTrue (list_all (is_within (2 ^ 30)) (a ∷ b ∷ c ∷ [])) = rw (wx, wy, wz) refl in
+      rw (was_kept (is_within (2 ^ 30) a) x a ex, was_kept (is_within (2 ^ 30) b) y b ey, was_kept (is_within (2 ^ 30) c) z c ez, kept_within a wx, kept_within b wy, kept_within c wz) (kept_point (a ∷ b ∷ c ∷ []) all)

@@ -1,0 +1,7 @@
+pub mod Bytes
+pub mod Slashes
+pub mod Prefixes
+pub mod Spelling
+pub mod Orders
+pub mod Scanning
+pub mod Building

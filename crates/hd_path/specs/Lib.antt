@@ -1,0 +1,8 @@
+pub mod Names
+pub mod Paths
+pub mod Faults
+pub mod Parsing
+pub mod Changes
+pub mod Texts
+pub mod Comparing
+pub mod Laws

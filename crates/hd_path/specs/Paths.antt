@@ -1,0 +1,22 @@
+-- A path is the list of its names, from the root down.
+use Rattle.std.specs.Prelude.{◌≡◌, ℕ, ◌≤◌, List, [], ◌∷◌, length, take, All, codes}
+use Rattle.std.specs.List.{flat_map}
+use Rattle.hd_path.specs.Names.{IsName}
+
+-- at most 32 names
+pub record IsPath (names : List (List ℕ)) : Type 0 where
+  pub shallow : length names ≤ 32
+  pub named : All IsName names
+
+-- each name behind a slash
+abbrev pub slashed : List (List ℕ) → List ℕ
+slashed names = flat_map (λ name. 47 ∷ name) names
+
+-- the text of a path: a slash for the root, and else each name behind a slash
+abbrev pub path_text : List (List ℕ) → List ℕ
+path_text [] = codes "/"
+path_text (name ∷ names) = slashed (name ∷ names)
+
+-- the path begins with the names of the prefix
+abbrev pub HasPrefix : List (List ℕ) → List (List ℕ) → Type 0
+HasPrefix path prefix = take (length prefix) path ≡ prefix
