@@ -1,10 +1,10 @@
 -- Moved points, in range or not.
-use Rattle.std.proofs.Common.{◌≡◌, ℕ, ◌^◌, Bool, true, false, ◌&&◌, refl, sym, ap, ◌∙◌, arith, ℤ, pos, ◌*ℤ◌, ◌+ℤ◌, List, [], ◌∷◌, get_or, Option, Some, None, IsTrue, w64, lit<, unsigned_abs, ◌≤◌, if◌then◌else◌}
+use Rattle.std.proofs.Common.{◌≡◌, ◌^◌, Bool, true, false, ◌&&◌, refl, sym, arith, ℤ, List, [], ◌∷◌, IfSome, Option, Some, None, IsTrue, w64, lit<, unsigned_abs, ◌≤◌, if◌then◌else◌}
 use Rattle.std.specs.List.{list_all}
 use Rattle.std.proofs.lemmas.Int.{to_z-of_z}
 use Rattle.hd_num.specs.declared.vector.Vec3.{Vec3}
-use Rattle.hd_num.specs.Matrices.{Rows, three, with_last, row_times, column_of, sum_below, is_within}
-use Rattle.hd_num.specs.Points.{point_of, components, bounded_point}
+use Rattle.hd_num.specs.Matrices.{is_within}
+use Rattle.hd_num.specs.Points.{point_of, components, point_in_range, bounded_point}
 use Rattle.hd_num.proofs.Sizes.{kept, fits_up_to}
 
 and_false : (b : Bool) → (b && false) ≡ false
@@ -13,10 +13,6 @@ and_false false = refl
 
 kept_within : (z : ℤ) → IsTrue (is_within (2 ^ 30) z) → kept w64 z ≡ z
 kept_within z h = let size : unsigned_abs z ≤ 2 ^ 30 = grind arith in to_z-of_z w64 z (fits_up_to w64 z (2 ^ 30) size (lit< tt))
-
--- the sum that the code makes for one component
-pub component : (row : List ℤ) (last : ℤ) (m : Rows) (j : ℕ) (column : List ℤ) (sum : ℤ) → column ≡ column_of m j → sum ≡ sum_below 4 (λ k. with_last row last k *ℤ get_or column k (pos 0)) → sum ≡ row_times (with_last row last) m j
-component row last m j column sum e h = h ∙ ap (λ c. sum_below 4 (λ k. with_last row last k *ℤ get_or c k (pos 0))) e
 
 -- a component that was refused, and one that was kept
 pub refused : (b : Bool) (z : ℤ) → ◌≡◌ {A = Option ℤ} None (if b then Some z else None) → b ≡ false
@@ -39,6 +35,14 @@ kept_point row e = rw e refl
 pub refused_point : (row : List ℤ) → list_all (is_within (2 ^ 30)) (components (point_of row)) ≡ false → None ≡ bounded_point (point_of row)
 unfolding bounded_point
 refused_point row e = rw e refl
+
+some_in_range : (b : Bool) (p : Vec3) → b ≡ point_in_range p → IfSome (if b then Some p else None) (λ q. IsTrue (point_in_range q))
+some_in_range true p e = sym e
+some_in_range false p e = tt
+
+pub bounded_point-in_range : (r : Option Vec3) (p : Vec3) → r ≡ bounded_point p → IfSome r (λ q. IsTrue (point_in_range q))
+unfolding bounded_point
+bounded_point-in_range r p e = rw e (some_in_range (point_in_range p) p refl)
 
 -- the number, and none where it is out of range
 abbrev pub bounded_number : ℤ → Option ℤ

@@ -1,5 +1,5 @@
 -- Quarter turns by their cosine and sine.
-use Rattle.std.proofs.Common.{◌≡◌, ℕ, zero, suc, ◌+◌, ◌<◌, ◌%◌, refl, sym, ap, ◌∙◌, arith, ℤ, pos, neg_ℤ, ◌-ℤ◌, List, [], ◌∷◌, w64, FitsSigned, subst, lit<, IsTrue}
+use Rattle.std.proofs.Common.{◌≡◌, ℕ, zero, suc, ◌+◌, ◌<◌, refl, sym, ap, ◌∙◌, arith, ℤ, pos, ◌-ℤ◌, [], ◌∷◌, w64, FitsSigned, subst, lit<, IsTrue}
 use Rattle.hd_num.specs.declared.axis.Axis.{Axis}
 use Rattle.hd_num.specs.declared.axis.Axis.TheVariants.{X, Y, Z}
 use Rattle.hd_num.specs.Matrices.{Rows, IsMatrix, identity, product, in_range}

@@ -1,5 +1,5 @@
 -- Rows in range, and their entries.
-use Rattle.std.proofs.Common.{◌≡◌, ℕ, zero, suc, ◌^◌, ◌≤◌, List, [], ◌∷◌, Bool, true, false, ◌&&◌, length, refl, arith, ℤ, pos, get_or, unsigned_abs, IsTrue, Some, None, if◌then◌else◌, w64, lit<}
+use Rattle.std.proofs.Common.{◌≡◌, ℕ, zero, suc, ◌^◌, ◌≤◌, List, [], ◌∷◌, Bool, true, false, ◌&&◌, length, refl, arith, ℤ, get_or, unsigned_abs, IsTrue, Some, None, if◌then◌else◌, w64, lit<}
 use Rattle.std.proofs.lemmas.Int.{to_z-of_z}
 use Rattle.std.specs.List.{list_all}
 use Rattle.hd_num.specs.Matrices.{Rows, column_of, entry, is_within, in_range, bounded}
@@ -21,6 +21,13 @@ pub bounded-in_range : (m : Rows) → IsTrue (in_range m) → Some m ≡ bounded
 unfolding bounded
 bounded-in_range m h = rw h refl
 
+-- an entry as the code keeps it, in bits
+pub entry_kept : (m : Rows) (i j : ℕ) → IsTrue (in_range m) → kept w64 (entry m i j) ≡ entry m i j
+entry_kept m i j h = to_z-of_z w64 (entry m i j) (fits_up_to w64 (entry m i j) (2 ^ 30) (entry_size m i j h) (lit< tt))
+
+pub entry_within : (m : Rows) (i j : ℕ) → IsTrue (in_range m) → IsTrue (is_within (2 ^ 30) (kept w64 (entry m i j)))
+entry_within m i j h = let size = entry_size m i j h in rw (entry_kept m i j h) (grind arith)
+
 some_of_test : (b : Bool) (m x : Rows) → Some x ≡ (if b then Some m else None) → x ≡ m
 some_of_test true m x e = cc
 some_of_test false m x e = cc
@@ -32,8 +39,7 @@ bounded-some m x e = some_of_test (in_range m) m x e
 -- a column as the code keeps it, in bits
 pub column_kept : (m : Rows) (j : ℕ) → IsTrue (in_range m) → ◌≡◌ {A = List ℤ} (kept w64 (entry m 0 j) ∷ kept w64 (entry m 1 j) ∷ kept w64 (entry m 2 j) ∷ kept w64 (entry m 3 j) ∷ []) (column_of m j)
 column_kept m j h =
-    let same = λ (i : ℕ). to_z-of_z w64 (entry m i j) (fits_up_to w64 (entry m i j) (2 ^ 30) (entry_size m i j h) (lit< tt)) in
-    rw (same 0, same 1, same 2, same 3) refl
+    rw (entry_kept m 0 j h, entry_kept m 1 j h, entry_kept m 2 j h, entry_kept m 3 j h) refl
 
 pub column_within : (m : Rows) (j : ℕ) → IsTrue (in_range m) → IsTrue (list_all (is_within (2 ^ 30)) (column_of m j))
 column_within m j h =

@@ -1,5 +1,5 @@
 -- The matrices of transform ops.
-use Rattle.std.specs.Prelude.{◌%◌, ℤ, pos, [], ◌∷◌}
+use Rattle.std.specs.Prelude.{◌%◌, pos, [], ◌∷◌}
 use Rattle.hd_num.specs.declared.vector.Vec3.{Vec3}
 use Rattle.hd_num.specs.declared.axis.Axis.TheVariants.{X, Y, Z}
 use Rattle.hd_num.specs.declared.op.Op.{Op}

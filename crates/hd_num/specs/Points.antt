@@ -24,6 +24,10 @@ coordinate p = with_last (components p) (pos 1)
 unfoldable pub moved : Vec3 → Rows → Vec3
 moved p m = point_of (three (row_times (coordinate p) m))
 
--- the point, and none where a component is outside -2^30 to 2^30
+-- each component is from -2^30 to 2^30
+abbrev pub point_in_range : Vec3 → Bool
+point_in_range p = list_all (is_within (2 ^ 30)) (components p)
+
+-- the point, and none where it is out of range
 unfoldable pub bounded_point : Vec3 → Option Vec3
-bounded_point p = if list_all (is_within (2 ^ 30)) (components p) then Some p else None
+bounded_point p = if point_in_range p then Some p else None

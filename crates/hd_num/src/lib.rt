@@ -13,3 +13,6 @@ pub use list::List;
 pub use matrix::Matrix;
 pub use op::Op;
 pub use vector::{Rgb, Vec3};
+
+#[cfg(test)]
+mod tests;

@@ -1,6 +1,6 @@
 //! A list that does not change and is shared by its copies.
 
-ghost use Rattle.std.specs.Prelude.{◌≡◌, [], IfOk};
+ghost use Rattle.std.specs.Prelude.{◌≡◌, ◌↔◌, [], IfOk, IsTrue, length};
 
 use std::alloc::{AllocError, Global};
 use std::marker::Model;
@@ -41,6 +41,20 @@ impl<T> List<T> {
             Some(items) => items.as_slice(),
             None => &[],
         }
+    }
+
+    /// How many items there are.
+    pub fn len(&self) -> usize
+        ensures { result ≡ length self.now }
+    {
+        self.items().len()
+    }
+
+    /// Whether there are no items.
+    pub fn is_empty(&self) -> bool
+        ensures { IsTrue result ↔ (self.now ≡ []) }
+    {
+        self.items().is_empty()
     }
 }
 

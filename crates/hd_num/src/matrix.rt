@@ -1,15 +1,14 @@
 //! Matrices of whole numbers, which move points.
 
-ghost use Rattle.std.specs.Prelude.{◌≡◌, ◌<◌, ◌%◌, ◌^◌, ◌*ℤ◌, IsTrue, if◌then◌else◌, pos, slice_index_or};
+ghost use Rattle.std.specs.Prelude.{◌≡◌, ◌<◌, ◌%◌, ◌^◌, ◌*ℤ◌, IfSome, IsTrue, if◌then◌else◌, pos, slice_index_or};
 ghost use Rattle.std.specs.List.{list_all};
-ghost use Rattle.hd_num.specs.Matrices.{bounded, column_of, entry, identity, in_range, is_within, product, row_times, sum_below, table, three, with_last};
-ghost use Rattle.hd_num.specs.Points.{bounded_point, moved, point_of};
+ghost use Rattle.hd_num.specs.Matrices.{IsMatrix, bounded, column_of, entry, identity, in_range, is_within, product, row_times, sum_below, table, three, with_last};
+ghost use Rattle.hd_num.specs.Points.{bounded_point, moved, point_in_range, point_of};
 ghost use Rattle.hd_num.specs.Turns.{cosine, sine, turns};
-
-use std::marker::Model;
 
 use crate::axis::Axis;
 use crate::vector::Vec3;
+use std::marker::Model;
 
 /// The largest magnitude of a number in a matrix, and of a component of a moved point.
 const LIMIT: u64 = 1 << 30;
@@ -64,11 +63,11 @@ impl Matrix {
     pub fn quarter_turn(axis: Axis, k: u8) -> Matrix
         ensures { result ≡ turns axis (k % 4) }
     {
-        let (c, s) = cosine_and_sine(k);
+        let (cosine, sine) = cosine_and_sine(k);
         let rows = match axis {
-            Axis::X => [[1, 0, 0], [0, c, s], [0, -s, c], [0, 0, 0]],
-            Axis::Y => [[c, 0, -s], [0, 1, 0], [s, 0, c], [0, 0, 0]],
-            Axis::Z => [[c, s, 0], [-s, c, 0], [0, 0, 1], [0, 0, 0]],
+            Axis::X => [[1, 0, 0], [0, cosine, sine], [0, -sine, cosine], [0, 0, 0]],
+            Axis::Y => [[cosine, 0, -sine], [0, 1, 0], [sine, 0, cosine], [0, 0, 0]],
+            Axis::Z => [[cosine, sine, 0], [-sine, cosine, 0], [0, 0, 1], [0, 0, 0]],
         };
         Matrix { rows }
     }
@@ -86,7 +85,9 @@ impl Matrix {
     pub fn entry(&self, row: usize, column: usize) -> i64
         requires row_in { row < 4 }
         requires column_in { column < 3 }
-        ensures { result ≡ entry self.now row column }
+        ensures number { result ≡ entry self.now row column }
+        ensures within { IsTrue (is_within (2 ^ 30) result) }
+        ensures matrix { IsMatrix self.now }
     {
         self.rows[row][column]
     }
@@ -107,7 +108,8 @@ impl Matrix {
 
     /// Where the matrix moves a point, or `None` where a component is outside -2^30 to 2^30.
     pub fn apply(&self, p: Vec3) -> Option<Vec3>
-        ensures { result ≡ bounded_point (moved p self.now) }
+        ensures exact { result ≡ bounded_point (moved p self.now) }
+        ensures within { IfSome result (λ image. IsTrue (point_in_range image)) }
     {
         let row = [p.x, p.y, p.z];
         if is_row_within(&row, NARROW_LIMIT) {
@@ -133,7 +135,7 @@ impl Matrix {
     fn wide_component(&self, row: [i64; 3], column: usize) -> Option<i64>
         requires { column < 3 }
         ensures { let component = row_times (with_last row (pos 1)) self.now column in
-                  result ≡ (if is_within (2 ^ 30) component then Some component else None) }
+            result ≡ (if is_within (2 ^ 30) component then Some component else None) }
     {
         let component = wide_dot(row, self.column(column));
         if component.unsigned_abs() <= u128::from(LIMIT) {

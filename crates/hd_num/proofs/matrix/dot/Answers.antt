@@ -1,5 +1,5 @@
 -- Each product and sum of the code is exact, since the numbers are small enough.
-use Rattle.std.proofs.Common.{◌≡◌, ◌+◌, ◌*◌, ◌^◌, ◌+ℤ◌, ◌*ℤ◌, pos, get_or, w64, lit<, List, ℕ, ℤ, IsTrue, arith, ◌∙◌, sym}
+use Rattle.std.proofs.Common.{◌+◌, ◌*◌, ◌^◌, ◌+ℤ◌, ◌*ℤ◌, pos, get_or, w64, lit<, List, ℕ, ℤ, IsTrue, arith, ◌∙◌, sym}
 use Rattle.std.specs.List.{list_all}
 use Rattle.hd_num.specs.Matrices.{is_within}
 use Rattle.hd_num.proofs.Sizes.{IsExact, ThreeProducts, three_products, exact_number, exact_product, exact_sum, plus, times, size_at, sum_from_zero}

@@ -1,4 +1,3 @@
-use Rattle.std.proofs.Common.{◌∙◌}
 use Rattle.hd_num.proofs.Shapes.{in_range-rows}
 use Rattle.hd_num.proofs.matrix.is_in_range.Goals as goal
 

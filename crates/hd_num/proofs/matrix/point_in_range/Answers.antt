@@ -1,4 +1,4 @@
-use Rattle.std.proofs.Common.{◌≡◌, ◌^◌, rules, FitsSigned, w64, get_or, pos, ap, ◌∙◌, sym}
+use Rattle.std.proofs.Common.{◌^◌, rules, FitsSigned, w64, get_or, pos, ap, ◌∙◌, sym}
 use Rattle.std.proofs.lemmas.Int.{to_z-of_z}
 use Rattle.std.specs.List.{list_all}
 use Rattle.hd_num.specs.Matrices.{is_within}

@@ -1,5 +1,5 @@
 -- Each product and sum of the code is exact, since 128 bits have room for any row of 64.
-use Rattle.std.proofs.Common.{◌≡◌, ◌≤◌, ◌+◌, ◌*◌, ◌^◌, ◌+ℤ◌, ◌*ℤ◌, pos, get_or, w64, lit<, List, ℕ, ℤ, IsTrue, FitsSigned, unsigned_abs, arith, rules, ◌∙◌, sym, subst}
+use Rattle.std.proofs.Common.{◌≡◌, ◌≤◌, ◌+◌, ◌*◌, ◌^◌, ◌+ℤ◌, ◌*ℤ◌, pos, get_or, w64, lit<, List, ℕ, ℤ, IsTrue, unsigned_abs, rules, ◌∙◌}
 use Rattle.std.specs.List.{list_all}
 use Rattle.hd_num.specs.Matrices.{is_within}
 use Rattle.hd_num.proofs.Sizes.{IsExact, ThreeProducts, three_products, exact_number, exact_sum, plus, times, kept, fits_up_to, size_at, read_size, read_value, same_products}

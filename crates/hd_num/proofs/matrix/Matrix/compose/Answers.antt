@@ -1,4 +1,4 @@
-use Rattle.std.proofs.Common.{◌≡◌, ap, ◌∙◌, sym, ◌∷◌, []}
+use Rattle.std.proofs.Common.{ap, ◌∙◌}
 use Rattle.hd_num.specs.Matrices.{bounded, product}
 use Rattle.hd_num.proofs.Shapes.{row_within_twice}
 use Rattle.hd_num.proofs.matrix.Matrix.compose.Goals as goal

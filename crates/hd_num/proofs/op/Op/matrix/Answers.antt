@@ -1,4 +1,4 @@
-use Rattle.std.proofs.Common.{◌≡◌, ◌%◌, ◌<◌, arith, rules, FitsSigned, w64, sym, ap, ◌∙◌}
+use Rattle.std.proofs.Common.{◌%◌, ◌<◌, arith, rules, FitsSigned, w64, sym, ap, ◌∙◌}
 use Rattle.std.proofs.lemmas.Int.{to_z-of_z}
 use Rattle.hd_num.specs.Matrices.{bounded, product}
 use Rattle.hd_num.specs.Ops.{op_matrix}

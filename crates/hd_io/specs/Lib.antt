@@ -1,0 +1,9 @@
+pub mod Causes
+pub mod Failures
+pub mod Files
+pub mod Memory
+pub mod MemoryRack
+pub mod MemoryShelf
+pub mod MemorySink
+pub mod Real
+pub mod Shelf

@@ -1,0 +1,53 @@
+//! What a shelf keeps of its failed calls.
+
+ghost use Rattle.std.specs.Prelude.{◌≡◌, Some, None, Err, IsErr, string_bytes};
+ghost use Rattle.hd_io.specs.Causes.{HasCause};
+ghost use Rattle.hd_io.specs.Failures.{failed_name};
+ghost use Rattle.hd_io.specs.Shelf.{NamesFailure};
+
+use crate::OutsideFault;
+use std::alloc::Global;
+
+/// How many calls failed, and the name that the last of them concerned.
+#[derive(Drop)]
+pub(crate) struct Failures {
+    pub(crate) alloc: Global,
+    pub(crate) count: u64,
+    pub(crate) name: Option<String>,
+}
+
+impl Failures {
+    pub(crate) fn new(alloc: Global) -> Self
+        ensures count { result.count ≡ 0 }
+        ensures name { failed_name result ≡ None }
+    {
+        Failures {
+            alloc,
+            count: 0,
+            name: None,
+        }
+    }
+
+    /// The answer to a call that failed and concerned this name.
+    pub(crate) fn note<T>(&mut self, name: String) -> Result<T, OutsideFault>
+        ensures answer { result ≡ Err OutsideFault.Failed }
+        ensures failed { failed_name self.new ≡ Some (string_bytes name) }
+        ensures cause { HasCause self.old.count self.new.count result }
+    {
+        self.name = Some(name);
+        self.count = self.count.saturating_add(1);
+        Err(OutsideFault::Failed)
+    }
+
+    /// The same, where the name is yet to be copied; without memory for it, nothing is noted.
+    pub(crate) fn fail<T>(&mut self, name: &str) -> Result<T, OutsideFault>
+        ensures err { IsErr result }
+        ensures failed { NamesFailure (Some name.now) (failed_name self.old) (failed_name self.new) result }
+        ensures cause { HasCause self.old.count self.new.count result }
+    {
+        match String::from_str(self.alloc, name) {
+            Ok(name) => self.note(name),
+            Err(_) => Err(OutsideFault::NoMemory),
+        }
+    }
+}

@@ -1,0 +1,10 @@
+//! The forms in memory, which tell what they hold and fail where they are told to.
+
+mod calls;
+mod rack;
+mod shelf;
+mod sink;
+
+pub use rack::MemoryRack;
+pub use shelf::MemoryShelf;
+pub use sink::MemorySink;

@@ -1,0 +1,56 @@
+//! Which calls of an object in memory fail, and how much one call moves.
+
+ghost use Rattle.std.specs.Prelude.{◌≡◌, ◌≤◌, ◌↔◌, IsTrue};
+ghost use Rattle.hd_io.specs.Memory.{first_call, counted, IsDue};
+
+use std::marker::Model;
+
+/// The calls of an object in memory, which are numbered from 0.
+#[derive(Drop)]
+pub(crate) struct Calls {
+    next: u64,
+    failing: Vec<u64>,
+    piece: usize,
+}
+
+impl Model for Calls {
+    ghost use Rattle.std.specs.Prelude.{◌≤◌};
+    ghost use Rattle.hd_io.specs.Memory.{CallPlan};
+
+    ghost Value = { CallPlan };
+
+    ghost view = { λ c. record { next = c.next; failing = c.failing.items; piece = c.piece } };
+
+    ghost invariant = { λ c. 1 ≤ c.piece };
+}
+
+impl Calls {
+    pub(crate) fn new(failing: Vec<u64>, piece: usize) -> Self
+        requires { 1 ≤ piece }
+        ensures { result ≡ first_call failing.items piece }
+    {
+        Calls {
+            next: 0,
+            failing,
+            piece,
+        }
+    }
+
+    /// Counts a call, and says whether it is one of those that fail.
+    pub(crate) fn fails(&mut self) -> bool
+        ensures answer { IsTrue result ↔ IsDue self.old }
+        ensures counted { self.new ≡ counted self.old }
+    {
+        let number = self.next;
+        self.next = number.saturating_add(1);
+        self.failing.contains(&number)
+    }
+
+    /// The most bytes that one call moves, at least one.
+    pub(crate) fn piece(&self) -> usize
+        ensures piece { result ≡ self.now.piece }
+        ensures some { 1 ≤ result }
+    {
+        self.piece
+    }
+}

@@ -1,0 +1,122 @@
+//! A shelf over the files of the system.
+
+ghost use Rattle.std.specs.Prelude.{◌≡◌, ◌+◌, ◌<◌, ◌≤◌, length, Option, None, Some, OnErr, IfOk, string_bytes};
+ghost use Rattle.hd_io.specs.Causes.{HasCause};
+ghost use Rattle.hd_io.specs.Failures.{failed_name};
+ghost use Rattle.hd_io.specs.Shelf.{NamesFailure};
+
+use crate::failures::Failures;
+use crate::{OutsideFault, Shelf};
+use std::alloc::Global;
+use std::fs;
+use std::io::Read;
+use std::marker::Model;
+use std::rt::Files;
+
+/// An open file with its name, and how many bytes were taken from it.
+#[derive(Drop)]
+struct Reading<F> {
+    name: String,
+    file: F,
+    taken: u64,
+}
+
+impl<F: Read> Reading<F> {
+    /// Reads the next bytes, and notes a failure. A read after which the count of taken bytes might not fit fails.
+    fn read(&mut self, buffer: &mut [u8], failures: &mut Failures) -> Result<usize, OutsideFault>
+        ensures name { string_bytes self.new.name ≡ string_bytes self.old.name }
+        ensures count { IfOk result (λ n. n ≤ length buffer.new) }
+        ensures taken { IfOk result (λ n. self.new.taken ≡ self.old.taken + n) }
+        ensures untaken { OnErr result (self.new.taken ≡ self.old.taken) }
+        ensures failed { NamesFailure (Some (string_bytes self.old.name)) (failed_name failures.old) (failed_name failures.new) result }
+        ensures cause { HasCause failures.old.count failures.new.count result }
+    {
+        if u64::MAX - self.taken < buffer.len() as u64 {
+            return failures.fail(self.name.as_str());
+        }
+        match self.file.read(buffer) {
+            Ok(count) => {
+                self.taken += count as u64;
+                Ok(count)
+            }
+            Err(_) => failures.fail(self.name.as_str()),
+        }
+    }
+}
+
+/// A shelf over the files of the system. It tells no bytes.
+#[derive(Drop)]
+pub struct FileShelf<R: Files> {
+    rt: R,
+    reading: Option<Reading<R::File>>,
+    pub(crate) failures: Failures,
+}
+
+impl<R: Files> Model for FileShelf<R> {
+    ghost use Rattle.std.specs.Prelude.{string_bytes};
+    ghost use Rattle.std.specs.Option.{option_map, option_map_or};
+    ghost use Rattle.hd_io.specs.Failures.{failed_name};
+    ghost use Rattle.hd_io.specs.Real.{FileShelfState};
+
+    ghost Value = { FileShelfState };
+
+    ghost view = { λ s. record {
+      opened = option_map (λ reading. string_bytes reading.name) s.reading;
+      taken = option_map_or (λ reading. reading.taken) s.reading 0;
+      faults = s.failures.count;
+      failed = failed_name s.failures;
+    } };
+}
+
+impl<R: Files> FileShelf<R> {
+    /// A shelf over the files of this runtime, of which none is open.
+    pub fn new(rt: R, alloc: Global) -> FileShelf<R>
+        ensures opened { result.opened ≡ None }
+        ensures taken { result.taken ≡ 0 }
+        ensures faults { result.faults ≡ 0 }
+        ensures failed { result.failed ≡ None }
+    {
+        FileShelf {
+            rt,
+            reading: None,
+            failures: Failures::new(alloc),
+        }
+    }
+}
+
+impl<R: Files> Shelf for FileShelf<R> {
+    ghost files = { λ _. None };
+
+    ghost opened = { λ s. s.opened };
+
+    ghost taken = { λ s. s.taken };
+
+    ghost faults = { λ s. s.faults };
+
+    ghost failed = { λ s. s.failed };
+
+    fn open(&mut self, name: &str) -> Result<(), OutsideFault> {
+        // The name first, so that want of memory leaves all as it was.
+        let name = String::from_str(self.failures.alloc, name)?;
+        match fs::open(&self.rt, name.as_str()) {
+            Ok(file) => {
+                self.reading = Some(Reading {
+                    name,
+                    file,
+                    taken: 0,
+                });
+                Ok(())
+            }
+            Err(_) => self.failures.note(name),
+        }
+    }
+
+    fn read(&mut self, buffer: &mut [u8]) -> Result<usize, OutsideFault> {
+        let Some(mut reading) = self.reading.take() else {
+            unreachable!()
+        };
+        let answer = reading.read(buffer, &mut self.failures);
+        self.reading = Some(reading);
+        answer
+    }
+}

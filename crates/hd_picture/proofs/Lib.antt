@@ -1,0 +1,11 @@
+pub mod Blocks
+pub mod Boxes
+pub mod Corners
+pub mod Covers
+pub mod Crosses
+pub mod EdgeCover
+pub mod Floors
+pub mod Integers
+pub mod NearestLemmas
+pub mod Shades
+pub mod Steps

@@ -1,0 +1,101 @@
+-- One more triangle of the list.
+use Rattle.std.proofs.Common.{◌≡◌, ℕ, ◌+◌, ◌<◌, ◌≤◌, ◌^◌, arith, ap, refl, sym, subst, ◌∙◌, false, pos, ◌-ℤ◌, ◌*ℤ◌, List, [], ◌∷◌, ◌++◌, length, get_or, take, None, Some, Option, filter_map}
+use Rattle.std.specs.Option.{option_map_or}
+use Rattle.std.proofs.lemmas.Int.{ints}
+use Rattle.std.proofs.lemmas.Grind.{take_at_read}
+use Rattle.std.proofs.lemmas.List.{take_all}
+use Rattle.std.proofs.lemmas.List.Elements.{filter_map-append}
+use Rattle.hd_num.specs.declared.vector.Vec3.{Vec3}
+use Rattle.hd_picture.specs.declared.draws.Draws.{Draws}
+use Rattle.hd_picture.specs.declared.draws.WorldTri.{WorldTri}
+use Rattle.hd_picture.specs.declared.edges.Weights.{Weights}
+use Rattle.hd_picture.specs.declared.nearest.Fragment.{Fragment}
+use Rattle.hd_picture.specs.declared.projection.Place.{Place}
+use Rattle.hd_picture.specs.Coverage.{covers, weights, weights_seen}
+use Rattle.hd_picture.specs.Limits.{IsFrameSize, IsPointWithin, IsTriWithin}
+use Rattle.hd_picture.specs.Pixels.{black, fragment, fragments, nearest, pixel}
+use Rattle.hd_picture.specs.Shading.{IsEdgeInReach, IsFrontOf, IsInBox, IsInReach, IsNearMiddle, fragment_by, nearer}
+use Rattle.hd_picture.specs.View.{centre, projected}
+use Rattle.hd_picture.proofs.Boxes.{outside_box}
+use Rattle.hd_picture.proofs.Covers.{fragment_front, fragment_none}
+use Rattle.hd_picture.proofs.NearestLemmas.{nearest-append}
+
+-- the corners of a drawable triangle are in reach of each place of the frame
+edge_in_reach : (eye p r : Vec3) (a b q : Place) → a ≡ projected eye p → b ≡ projected eye r
+    → IsPointWithin (2 ^ 30) eye → IsPointWithin (2 ^ 24) p → IsPointWithin (2 ^ 24) r → IsNearMiddle q → IsEdgeInReach a b q
+edge_in_reach eye p r a b q ea eb he hp hr hq =
+    let ax : a.x ≡ pos 2 *ℤ (p.x -ℤ eye.x) = ap (λ (z : Place). z.x) ea in
+    let ay : a.y ≡ pos 2 *ℤ (p.y -ℤ eye.y) = ap (λ (z : Place). z.y) ea in
+    let bx : b.x ≡ pos 2 *ℤ (r.x -ℤ eye.x) = ap (λ (z : Place). z.x) eb in
+    let by : b.y ≡ pos 2 *ℤ (r.y -ℤ eye.y) = ap (λ (z : Place). z.y) eb in
+    record {
+      along_x = record { low = omega (arith, ints); high = omega (arith, ints) };
+      along_y = record { low = omega (arith, ints); high = omega (arith, ints) };
+      from_x = record { low = omega (arith, ints); high = omega (arith, ints) };
+      from_y = record { low = omega (arith, ints); high = omega (arith, ints) };
+    }
+
+-- places that are where the eye sees the corners
+pub record IsSeen (eye : Vec3) (tri : WorldTri) (a b c : Place) : Type 0 where
+  pub at_a : a ≡ projected eye tri.a
+  pub at_b : b ≡ projected eye tri.b
+  pub at_c : c ≡ projected eye tri.c
+
+module _ (eye : Vec3) (tri : WorldTri) (a b c q : Place) (seen : IsSeen eye tri a b c) where
+  pub in_reach : IsPointWithin (2 ^ 30) eye → IsTriWithin (2 ^ 24) tri → IsNearMiddle q → IsInReach a b c q
+  in_reach he ht hq = record {
+    ab = edge_in_reach eye tri.a tri.b a b q seen.at_a seen.at_b he ht.a ht.b hq;
+    bc = edge_in_reach eye tri.b tri.c b c q seen.at_b seen.at_c he ht.b ht.c hq;
+    ca = edge_in_reach eye tri.c tri.a c a q seen.at_c seen.at_a he ht.c ht.a hq;
+  }
+
+  pub same_weights : weights a b c q ≡ weights_seen eye tri q
+  same_weights = rw (seen.at_a, seen.at_b, seen.at_c)
+
+  pub nothing_outside : ¬ (IsInBox a b c q) → fragment eye q tri ≡ None
+  nothing_outside out = fragment_none eye q tri (ap covers (sym same_weights) ∙ outside_box a b c q out)
+
+  pub nothing_uncovered : (w : Weights) → w ≡ weights a b c q → covers w ≡ false → fragment eye q tri ≡ None
+  nothing_uncovered w e h = fragment_none eye q tri (ap covers (sym (e ∙ same_weights)) ∙ h)
+
+  pub shown_by_front : (w front : Weights) → w ≡ weights a b c q → IsFrontOf w front → fragment eye q tri ≡ fragment_by front tri eye.z
+  shown_by_front w front e h = fragment_front eye q tri front (let P : Weights → Type 0 = λ v. IsFrontOf v front in subst P (e ∙ same_weights) h)
+
+-- a place of the frame
+pub centre_near : (w h x y : ℕ) → IsFrameSize w → IsFrameSize h → x < 1024 → y < 1024 → IsNearMiddle (centre w h x y)
+centre_near w h x y hw hh hx hy = record {
+  x = record { low = omega (arith, ints); high = omega (arith, ints) };
+  y = record { low = omega (arith, ints); high = omega (arith, ints) };
+}
+
+append_nil : {X : Type 0} → (xs : List X) → xs ++ [] ≡ xs
+append_nil [] = refl
+append_nil (x ∷ xs) = ap (λ ys. x ∷ ys) (append_nil xs)
+
+-- the nearest after one more triangle
+pub nearest_more : (eye : Vec3) (q : Place) (tris : List WorldTri) (tri : WorldTri)
+    → nearest (fragments eye q (tris ++ tri ∷ [])) ≡ nearer (nearest (fragments eye q tris)) (fragment eye q tri)
+nearest_more eye q tris tri = rw (filter_map-append (fragment eye q) tris (tri ∷ [])) (by (fragment eye q tri))
+  where
+    fs : List Fragment
+    fs = fragments eye q tris
+
+    by : (o : Option Fragment) → nearest (filter_map (fragment eye q) tris ++ filter_map (λ (t : WorldTri). o) (tri ∷ [])) ≡ nearer (nearest (filter_map (fragment eye q) tris)) o
+    by None = ap nearest (append_nil (filter_map (fragment eye q) tris))
+    by (Some f) = nearest-append (filter_map (fragment eye q) tris) f
+
+-- a loop's step: the same of one more place in a list
+pub nearest_step : {best next : Option Fragment} (eye : Vec3) (q : Place) (tris : List WorldTri) (i : ℕ) (d : WorldTri)
+    → next ≡ nearer best (fragment eye q (get_or tris i d)) → i < length tris
+    → best ≡ nearest (fragments eye q (take i tris)) → next ≡ nearest (fragments eye q (take (i + 1) tris))
+nearest_step eye q tris i d e l before =
+    e ∙ ap (λ b. nearer b (fragment eye q (get_or tris i d))) before
+    ∙ sym (ap (λ ts. nearest (fragments eye q ts)) (take_at_read tris i d l).1 ∙ nearest_more eye q (take i tris) (get_or tris i d))
+
+-- the nearest of all triangles at a pixel's centre gives its color
+pub pixel_is : (draws : Draws) (x y : ℕ) (q : Place) (tris : List WorldTri) (i : ℕ) (best : Option Fragment)
+    → q ≡ centre draws.width draws.height x y → tris ≡ draws.tris → length tris ≤ i
+    → best ≡ nearest (fragments draws.eye q (take i tris))
+    → option_map_or (λ (f : Fragment). f.color) best black ≡ pixel draws x y
+unfolding pixel
+pixel_is draws x y q tris i best eq et l eb = rw (eb, take_all i tris l, et, eq)

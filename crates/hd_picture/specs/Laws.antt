@@ -1,0 +1,73 @@
+-- What follows from the definitions.
+use Rattle.std.specs.Prelude.{◌≡◌, ℕ, ◌<◌, List, [], ◌∷◌, ◌++◌, length, None, IsTrue, ◌≢◌, ◌⊎◌, ℤ, pos, ◌+ℤ◌, ◌*ℤ◌, neg_ℤ, ◌≤ℤ◌, ◌<ℤ◌, slice_index_or}
+use Rattle.std.specs.Int.{int_max, int_min}
+use Rattle.hd_num.specs.declared.vector.Vec3.{Vec3}
+use Rattle.hd_picture.specs.declared.draws.WorldTri.{WorldTri}
+use Rattle.hd_picture.specs.declared.nearest.Fragment.{Fragment}
+use Rattle.hd_picture.specs.declared.projection.Place.{Place}
+use Rattle.hd_picture.specs.Coverage.{covers, edge, total, weights_seen}
+use Rattle.hd_picture.specs.Depth.{floor_div}
+use Rattle.hd_picture.specs.Pixels.{black, fragment, fragments, shown}
+use Rattle.hd_picture.specs.Shading.{IsInBox}
+use Rattle.hd_picture.specs.View.{projected}
+
+-- the quotient rounded down is the greatest whole number at most n / d, and does not change where both signs do
+pub record RoundsDown (n d : ℤ) : Type 0 where
+  pub at_most : pos 0 <ℤ d → (d *ℤ floor_div n d) ≤ℤ n
+  pub greatest : pos 0 <ℤ d → n <ℤ (d *ℤ (floor_div n d +ℤ pos 1))
+  pub both_signs : d ≢ pos 0 → floor_div (neg_ℤ n) (neg_ℤ d) ≡ floor_div n d
+
+abbrev pub EachRoundsDown : Type 0
+EachRoundsDown = (n d : ℤ) → RoundsDown n d
+
+-- the triangle from its next corner on, and with its other side in front
+abbrev pub turned : WorldTri → WorldTri
+turned tri = record tri { a = tri.b; b = tri.c; c = tri.a }
+
+abbrev pub mirrored : WorldTri → WorldTri
+mirrored tri = record tri { b = tri.c; c = tri.b }
+
+abbrev pub TurnedShowsTheSame : Type 0
+TurnedShowsTheSame = (eye : Vec3) (q : Place) (tri : WorldTri) → fragment eye q (turned tri) ≡ fragment eye q tri
+
+abbrev pub MirroredShowsTheSame : Type 0
+MirroredShowsTheSame = (eye : Vec3) (q : Place) (tri : WorldTri) → fragment eye q (mirrored tri) ≡ fragment eye q tri
+
+-- q is within the box of an edge's ends
+pub record IsInEdgeBox (a b q : Place) : Type 0 where
+  pub left : int_min a.x b.x ≤ℤ q.x
+  pub right : q.x ≤ℤ int_max a.x b.x
+  pub bottom : int_min a.y b.y ≤ℤ q.y
+  pub top : q.y ≤ℤ int_max a.y b.y
+
+-- what a triangle covers is in the box of its corners
+abbrev pub CoversInBox : Type 0
+CoversInBox = (eye : Vec3) (q : Place) (tri : WorldTri) → IsTrue (covers (weights_seen eye tri q))
+    → IsInBox (projected eye tri.a) (projected eye tri.b) (projected eye tri.c) q
+
+-- a triangle with an area covers its edges, so that two triangles with an edge in common leave no gap there
+abbrev pub CoversEdges : Type 0
+CoversEdges = (eye : Vec3) (q : Place) (tri : WorldTri)
+    → total (weights_seen eye tri q) ≢ pos 0
+    → edge (projected eye tri.a) (projected eye tri.b) q ≡ pos 0
+    → IsInEdgeBox (projected eye tri.a) (projected eye tri.b) q
+    → IsTrue (covers (weights_seen eye tri q))
+
+-- a triangle that shows nothing at a place changes nothing there, wherever it stands in the list
+abbrev pub UnseenChangesNothing : Type 0
+UnseenChangesNothing = (eye : Vec3) (q : Place) (before after : List WorldTri) (tri : WorldTri)
+    → fragment eye q tri ≡ None
+    → fragments eye q (before ++ tri ∷ after) ≡ fragments eye q (before ++ after)
+
+-- the fragment at place i hides all others: none has a greater depth, and each before it a smaller one
+pub record IsFirstNearest (fs : List Fragment) (i : ℕ) (f : Fragment) : Type 0 where
+  pub place : i < length fs
+  pub at_place : slice_index_or fs i f ≡ f
+  pub greatest : (k : ℕ) → k < length fs → (slice_index_or fs k f).depth ≤ℤ f.depth
+  pub first : (k : ℕ) → k < i → (slice_index_or fs k f).depth <ℤ f.depth
+
+-- black where no fragment is, else the color of the one that hides all others
+abbrev pub ShowsFirstNearest : Type 0
+ShowsFirstNearest = (fs : List Fragment)
+    → ((fs ≡ []) × (shown fs ≡ black))
+    ⊎ ((i : ℕ) × (f : Fragment) × IsFirstNearest fs i f × (shown fs ≡ f.color))

@@ -1,0 +1,9 @@
+pub mod Coverage
+pub mod Depth
+pub mod Laws
+pub mod Limits
+pub mod Pixels
+pub mod Ppm
+pub mod Shading
+pub mod Tiling
+pub mod View

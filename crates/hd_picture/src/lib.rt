@@ -1,0 +1,26 @@
+//! Pictures by a depth buffer: what each pixel of a list of triangles shows.
+//!
+//! The eye looks along falling z. One unit of the world is one pixel, x is right and y is up, and
+//! the eye's own x and y stand in the middle of the picture.
+#![tactic(auto)]
+
+mod depths;
+mod drawable;
+mod draws;
+mod edges;
+mod laws;
+mod nearest;
+mod projection;
+mod tiles;
+
+pub use drawable::is_drawable;
+pub use draws::{Draws, WorldTri};
+pub use laws::{
+    corners_have_no_order, depths_round_down, edges_are_covered, pixels_show_the_nearest,
+    triangles_stay_in_their_boxes, unseen_triangles_change_nothing,
+};
+pub use nearest::pixel;
+pub use tiles::{tile, tile_count};
+
+#[cfg(test)]
+mod tests;

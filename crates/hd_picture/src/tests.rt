@@ -1,0 +1,304 @@
+ghost use Rattle.hd_picture.specs.Limits.{IsDrawable};
+
+use super::*;
+use hd_num::{List, Rgb, Vec3};
+use std::alloc::{AllocError, Global};
+use std::test::Fail;
+
+const WHITE: Rgb = Rgb {
+    r: 255,
+    g: 255,
+    b: 255,
+};
+
+const RED: Rgb = Rgb { r: 255, g: 0, b: 0 };
+
+const GREEN: Rgb = Rgb { r: 0, g: 255, b: 0 };
+
+/// The default eye.
+const EYE: Vec3 = Vec3 {
+    x: 0,
+    y: 0,
+    z: 1 << 24,
+};
+
+/// A right triangle around the middle of the picture, with its corners at these depths.
+fn right_triangle(size: u32, a: i64, b: i64, c: i64, color: Rgb) -> WorldTri {
+    let size = i64::from(size);
+    WorldTri {
+        a: Vec3 {
+            x: -size,
+            y: -size,
+            z: a,
+        },
+        b: Vec3 {
+            x: size,
+            y: -size,
+            z: b,
+        },
+        c: Vec3 {
+            x: -size,
+            y: size,
+            z: c,
+        },
+        color,
+    }
+}
+
+fn letter(color: Rgb) -> u8 {
+    if color == WHITE {
+        b'w'
+    } else if color == RED {
+        b'r'
+    } else if color == GREEN {
+        b'g'
+    } else {
+        b'.'
+    }
+}
+
+/// The picture with a letter for each colour, line by line from the top.
+fn picture(alloc: Global, draws: &Draws) -> Result<Vec<u8>, AllocError>
+    requires { IsDrawable draws.now }
+{
+    let mut letters = Vec::new(alloc);
+    for y in 0..draws.height {
+        for x in 0..draws.width {
+            letters.push(letter(pixel(draws, x, y)))?;
+        }
+        letters.push(b'\n')?;
+    }
+    Ok(letters)
+}
+
+fn scene(
+    alloc: Global,
+    tris: &[WorldTri],
+    eye: Vec3,
+    width: u32,
+    height: u32,
+) -> Result<Draws, AllocError> {
+    Ok(Draws {
+        tris: List::of(alloc, tris.to_vec(alloc)?)?,
+        eye,
+        width,
+        height,
+    })
+}
+
+/// The picture of these triangles, and nothing where they cannot be drawn.
+fn drawn(
+    alloc: Global,
+    tris: &[WorldTri],
+    eye: Vec3,
+    width: u32,
+    height: u32,
+) -> Result<Vec<u8>, AllocError> {
+    let draws = scene(alloc, tris, eye, width, height)?;
+    if is_drawable(&draws) {
+        picture(alloc, &draws)
+    } else {
+        Ok(Vec::new(alloc))
+    }
+}
+
+#[test]
+fn covers_the_centres_on_its_edges(rt: HostRuntime) -> Result<(), Fail> {
+    let alloc = rt.alloc();
+    let white = right_triangle(2, 0, 0, 0, WHITE);
+    let shown = drawn(alloc, &[white], EYE, 4, 4)?;
+    assert_eq!(rt; shown.as_slice(), b"w...\nww..\nwww.\nwwww\n".as_slice());
+
+    let wide = drawn(alloc, &[white], EYE, 48, 32)?;
+    let mut steps = Vec::new(alloc);
+    for y in 0..32_u32 {
+        for x in 0..48_u32 {
+            let inside = 14 <= y && y <= 17 && 22 <= x && x + 14 <= 22 + y;
+            steps.push(if inside { b'w' } else { b'.' })?;
+        }
+        steps.push(b'\n')?;
+    }
+    assert_eq!(rt; wide.as_slice(), steps.as_slice());
+    Ok(())
+}
+
+#[test]
+fn shows_the_nearest_and_the_first_of_equals(rt: HostRuntime) -> Result<(), Fail> {
+    let alloc = rt.alloc();
+    let red = right_triangle(2, 0, 0, 0, RED);
+    let green = right_triangle(2, 0, 0, 0, GREEN);
+    let nearer_green = right_triangle(2, 1, 1, 1, GREEN);
+    let sloping_red = right_triangle(2, 0, 0, -1, RED);
+    let farther_green = right_triangle(2, -1, -1, -1, GREEN);
+    let reds = b"r...\nrr..\nrrr.\nrrrr\n".as_slice();
+    let greens = b"g...\ngg..\nggg.\ngggg\n".as_slice();
+
+    assert_eq!(rt; drawn(alloc, &[red, green], EYE, 4, 4)?.as_slice(), reds);
+    assert_eq!(rt;
+        drawn(alloc, &[red, nearer_green], EYE, 4, 4)?.as_slice(),
+        greens
+    );
+    // The slope's depth is above -1 and below 0, and is rounded down to -1.
+    assert_eq!(rt;
+        drawn(alloc, &[sloping_red, farther_green], EYE, 4, 4)?.as_slice(),
+        reds
+    );
+    assert_eq!(rt;
+        drawn(alloc, &[farther_green, sloping_red], EYE, 4, 4)?.as_slice(),
+        greens
+    );
+    Ok(())
+}
+
+#[test]
+fn shows_nothing_behind_the_eye(rt: HostRuntime) -> Result<(), Fail> {
+    let alloc = rt.alloc();
+    let eye = Vec3 { x: 0, y: 0, z: 0 };
+    let behind = right_triangle(2, 1, 1, 1, WHITE);
+    let beside = right_triangle(2, 0, 0, 0, WHITE);
+    assert_eq!(rt;
+        drawn(alloc, &[behind], eye, 4, 4)?.as_slice(),
+        b"....\n....\n....\n....\n".as_slice()
+    );
+    assert_eq!(rt;
+        drawn(alloc, &[beside], eye, 4, 4)?.as_slice(),
+        b"w...\nww..\nwww.\nwwww\n".as_slice()
+    );
+    Ok(())
+}
+
+#[test]
+fn draws_odd_sizes_lines_and_the_greatest_coordinates(rt: HostRuntime) -> Result<(), Fail> {
+    let alloc = rt.alloc();
+    let tent = WorldTri {
+        a: Vec3 {
+            x: -20,
+            y: -20,
+            z: 0,
+        },
+        b: Vec3 {
+            x: 20,
+            y: -20,
+            z: 0,
+        },
+        c: Vec3 { x: 0, y: 40, z: 0 },
+        color: WHITE,
+    };
+    assert_eq!(rt;
+        drawn(alloc, &[tent], EYE, 17, 1)?.as_slice(),
+        b"wwwwwwwwwwwwwwwww\n".as_slice()
+    );
+
+    let line = WorldTri {
+        a: Vec3 { x: -2, y: -2, z: 0 },
+        b: Vec3 { x: 0, y: 0, z: 0 },
+        c: Vec3 { x: 2, y: 2, z: 0 },
+        color: WHITE,
+    };
+    assert_eq!(rt;
+        drawn(alloc, &[line], EYE, 2, 2)?.as_slice(),
+        b"..\n..\n".as_slice()
+    );
+
+    // One step from the diagonal the slope's depth falls by exactly 1.
+    let far = 1 << 24;
+    let flat = right_triangle(1 << 24, far - 1, far - 1, far - 1, GREEN);
+    let slope = right_triangle(1 << 24, -far, far, far, RED);
+    assert_eq!(rt;
+        drawn(alloc, &[flat, slope], EYE, 4, 4)?.as_slice(),
+        b"r...\ngr..\nggr.\ngggr\n".as_slice()
+    );
+
+    let corner = Vec3 {
+        x: 1 << 30,
+        y: -(1 << 30),
+        z: 1 << 30,
+    };
+    assert_eq!(rt;
+        drawn(alloc, &[slope], corner, 2, 2)?.as_slice(),
+        b"..\n..\n".as_slice()
+    );
+    Ok(())
+}
+
+#[test]
+fn draws_a_tile_at_the_border(rt: HostRuntime) -> Result<(), Fail> {
+    let alloc = rt.alloc();
+    let tent = WorldTri {
+        a: Vec3 {
+            x: -20,
+            y: -20,
+            z: 0,
+        },
+        b: Vec3 {
+            x: 20,
+            y: -20,
+            z: 0,
+        },
+        c: Vec3 { x: 0, y: 40, z: 0 },
+        color: WHITE,
+    };
+    let draws = scene(alloc, &[tent], EYE, 17, 1)?;
+    let mut block = [RED; 256];
+    if is_drawable(&draws) {
+        if 1 < tile_count(draws.width, draws.height) {
+            tile(&draws, 1, &mut block);
+        }
+    }
+    assert_eq!(rt; letter(block[0]), b'w');
+    assert!(rt; block[1..].iter().all(|color| letter(*color) == b'.'));
+    Ok(())
+}
+
+#[test]
+fn refuses_what_is_out_of_range(rt: HostRuntime) -> Result<(), Fail> {
+    let alloc = rt.alloc();
+    let tri = right_triangle(2, 0, 0, 0, WHITE);
+    let high = right_triangle(2, (1 << 24) + 1, 0, 0, WHITE);
+    let away = Vec3 {
+        x: 0,
+        y: (1 << 30) + 1,
+        z: 0,
+    };
+    assert!(rt; is_drawable(&scene(alloc, &[tri], EYE, 1024, 1024)?));
+    assert!(rt; !is_drawable(&scene(alloc, &[tri], EYE, 1025, 1)?));
+    assert!(rt; !is_drawable(&scene(alloc, &[tri], EYE, 1, 0)?));
+    assert!(rt; !is_drawable(&scene(alloc, &[tri], away, 1, 1)?));
+    assert!(rt; !is_drawable(&scene(alloc, &[tri, high], EYE, 1, 1)?));
+    Ok(())
+}
+
+#[test]
+fn counts_tiles_and_copies(rt: HostRuntime) -> Result<(), Fail> {
+    for (width, height, count) in [
+        (64, 64, 16),
+        (48, 32, 6),
+        (17, 1, 2),
+        (1024, 1024, 4096),
+        (4, 4, 1),
+    ] {
+        if 1 <= width && width <= 1024 && 1 <= height && height <= 1024 {
+            assert_eq!(rt; tile_count(width, height), count);
+        }
+    }
+    let alloc = rt.alloc();
+    let tri = right_triangle(2, 0, 0, 0, RED);
+    let copied = scene(alloc, &[tri], EYE, 4, 3)?.copy()?;
+    assert_eq!(rt; copied.tris.items(), [tri].as_slice());
+    assert_eq!(rt; copied.eye, EYE);
+    assert_eq!(rt; copied.width, 4);
+    assert_eq!(rt; copied.height, 3);
+    Ok(())
+}
+
+/// Draws may go to another thread and be read by several.
+fn crosses_threads<T: Send + Sync>(value: T) -> T {
+    value
+}
+
+#[test]
+fn is_sent_to_threads(rt: HostRuntime) -> Result<(), Fail> {
+    let draws = crosses_threads(scene(rt.alloc(), &[], EYE, 1, 1)?);
+    assert_eq!(rt; draws.width, 1);
+    Ok(())
+}

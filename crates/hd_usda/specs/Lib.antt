@@ -1,0 +1,10 @@
+pub mod Limits
+pub mod Faults
+pub mod Tokens
+pub mod Pieces
+pub mod Reading
+pub mod Repeating
+pub mod Wholes
+pub mod Lists
+pub mod FirstLayers
+pub mod Laws
