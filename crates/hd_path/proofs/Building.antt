@@ -2,7 +2,6 @@
 use Rattle.std.proofs.Common.{◌≡◌, ◌≢◌, ℕ, suc, ◌+◌, ◌-◌, ◌<◌, ◌≤◌, List, [], ◌∷◌, ◌++◌, length, get_or, take, drop, refl, sym, ap, ◌∙◌, ⊎_elim, subst, arith, length-append, append_assoc}
 use Rattle.std.proofs.lemmas.List.{append-nil, length-take, length-drop, take-append-drop}
 use Rattle.std.proofs.lemmas.List.Elements.{All-append, All-take, All-drop, All-push, All-get_or}
-use Rattle.std.proofs.lemmas.List.Sums.{prefix_len-le-length}
 use Rattle.std.proofs.lemmas.Str.Ascii.{IsAscii-nil, IsAscii-cons}
 use Rattle.std.proofs.lemmas.Str.{IsAscii-append, IsCharBoundary-from_ascii}
 use Rattle.std.specs.Str.{IsAscii, IsCharBoundary}
@@ -10,11 +9,11 @@ use Rattle.std.proofs.Math.Seq.{drop-cons, drop-append-add, take-append_seam, ge
 use Rattle.std.proofs.lemmas.List.{take_more, take_all, drop_all, get_or-append-add}
 use Rattle.std.proofs.lemmas.Bool.{cases_lt}
 use Rattle.std.specs.List.{count_by, prefix_len}
-use Rattle.std.specs.Prelude.{Result, Ok, Err, IfOk, nat_lt, false}
+use Rattle.std.specs.Prelude.{Result, Ok, IfOk, nat_lt, false}
 use Rattle.std.proofs.lemmas.Bool.Decides.{nat_tests}
 use Rattle.hd_path.specs.Changes.{replaced}
 use Rattle.hd_path.specs.Names.{IsName, identifier_len, is_word}
-use Rattle.hd_path.specs.Paths.{slashed, path_text, IsPath, HasPrefix}
+use Rattle.hd_path.specs.Paths.{slashed, IsPath, HasPrefix}
 use Rattle.hd_path.specs.Parsing.{is_slash}
 use Rattle.hd_path.specs.Texts.{names_in, IsSlashed, AtSlash}
 use Rattle.hd_path.proofs.Bytes.{Plain, AllPlain, names_plain, name_plain, Plain-get_or, identifier_len-append}

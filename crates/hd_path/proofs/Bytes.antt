@@ -1,16 +1,13 @@
 -- The bytes of a name are above a slash.
-use Rattle.std.proofs.Common.{◌≡◌, ℕ, zero, suc, ◌+◌, ◌<◌, ◌≤◌, Bool, true, false, ◌&&◌, ◌||◌, cond, eqb, List, [], ◌∷◌, ◌++◌, length, refl, sym, ap, ◌∙◌, arith, add-one, get_or}
+use Rattle.std.proofs.Common.{◌≡◌, ℕ, zero, suc, ◌+◌, ◌<◌, ◌≤◌, Bool, true, false, ◌&&◌, List, [], ◌∷◌, ◌++◌, length, refl, arith, get_or}
 use Rattle.std.proofs.lemmas.Bool.Decides.{nat_tests}
 use Rattle.std.proofs.lemmas.Bool.{false≢true}
 use Rattle.std.proofs.lemmas.List.Elements.{All-head, All-tail}
 use Rattle.std.proofs.lemmas.List.Sums.{prefix_len-le-length}
 use Rattle.std.specs.Prelude.{All}
 use Rattle.std.specs.List.{list_all, prefix_len}
-use Rattle.hd_path.specs.Names.{is_letter, is_digit, is_word, is_identifier, identifier_len, IsName}
+use Rattle.hd_path.specs.Names.{is_letter, is_word, is_identifier, identifier_len, IsName}
 use Rattle.hd_path.specs.Parsing.{is_slash}
-
-pub letter_range : (b : ℕ) → is_letter b ≡ true → (47 < b) × (b < 128)
-letter_range b h = grind (arith, nat_tests)
 
 pub word_range : (b : ℕ) → is_word b ≡ true → (47 < b) × (b < 128)
 word_range b h = grind (arith, nat_tests)

@@ -1,6 +1,6 @@
 -- A path begins with a prefix exactly where its text goes on at a slash behind that of the prefix.
-use Rattle.std.proofs.Common.{◌≡◌, ℕ, ◌+◌, ◌<◌, ◌≤◌, List, [], ◌∷◌, ◌++◌, length, take, drop, refl, sym, ap, ◌∙◌, subst, arith, length-append, Bool, true, false, IsTrue, get_or, ◌↔◌, nat_eq, suc}
-use Rattle.std.proofs.lemmas.List.{length-take, drop_all}
+use Rattle.std.proofs.Common.{◌≡◌, ℕ, ◌<◌, List, [], ◌∷◌, ◌++◌, length, take, drop, refl, sym, ap, ◌∙◌, arith, Bool, true, false, IsTrue, get_or, ◌↔◌, nat_eq, suc}
+use Rattle.std.proofs.lemmas.List.{drop_all}
 use Rattle.std.proofs.lemmas.Bool.Decides.{Decides-eqb}
 use Rattle.std.proofs.Math.Seq.{drop-cons}
 use Rattle.std.specs.List.{starts_with}
@@ -26,9 +26,6 @@ HasPrefix-slashed path (name ∷ names) rest p q e h =
     let cut : names_in (slashed (name ∷ names) ++ rest) ≡ names_in (slashed (name ∷ names)) ++ names_in rest = names_in-append (slashed (name ∷ names)) rest (omega arith) h in
     let split : path ≡ (name ∷ names) ++ names_in rest = sym (names_in-slashed path p) ∙ ap names_in e ∙ cut ∙ ap (λ front. front ++ names_in rest) (names_in-slashed (name ∷ names) q) in
     ap (take (length (name ∷ names))) split ∙ take-append_seam (name ∷ names) (names_in rest)
-
-pub prefix_le : (path prefix : List (List ℕ)) → HasPrefix path prefix → length prefix ≤ length path
-prefix_le path prefix h = omega (arith, length-take (length prefix) path, ap length h)
 
 begins : (text front : List ℕ) → true ≡ starts_with nat_eq text front → take (length front) text ≡ front
 begins text front h = sym ((bytes_decides front (take (length front) text)).0 (sym h))

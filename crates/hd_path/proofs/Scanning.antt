@@ -1,5 +1,5 @@
 -- One step of a scan: what the front of the rest says of the names that are left.
-use Rattle.std.proofs.Common.{◌≡◌, ◌≢◌, ℕ, suc, ◌+◌, ◌<◌, ◌≤◌, Bool, true, false, cond, List, [], ◌∷◌, ◌++◌, length, get_or, take, drop, refl, sym, ap, ◌∙◌, subst, arith, Result, Ok, Err, Option, Some, None}
+use Rattle.std.proofs.Common.{◌≡◌, ◌≢◌, ℕ, suc, ◌+◌, ◌<◌, ◌≤◌, Bool, true, false, cond, List, [], ◌∷◌, length, get_or, drop, refl, sym, ap, ◌∙◌, subst, arith, Result, Ok, Err, Some, None}
 use Rattle.std.proofs.lemmas.Bool.{false≢true}
 use Rattle.std.proofs.lemmas.Bool.Decides.{nat_tests}
 use Rattle.std.specs.List.{prefix_len}
@@ -9,7 +9,7 @@ use Rattle.hd_path.specs.declared.fault.PathFault.{PathFault}
 use Rattle.hd_path.specs.declared.fault.PathFault.TheVariants.{Syntax, TooDeep, NameTooLong}
 use Rattle.hd_path.specs.Names.{is_letter, is_word, identifier_len}
 use Rattle.hd_path.specs.Parsing.{is_slash, pieces, name_at, before_names, names_at}
-use Rattle.hd_path.proofs.Bytes.{words_all, words_plain, identifier_len-le}
+use Rattle.hd_path.proofs.Bytes.{words_all, words_plain}
 use Rattle.hd_path.proofs.Slashes.{is_slash_is, pieces_plain}
 
 -- what stands before the first slash

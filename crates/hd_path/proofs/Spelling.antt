@@ -1,5 +1,5 @@
 -- Parsing against the text of a path.
-use Rattle.std.proofs.Common.{◌≡◌, ◌≢◌, ℕ, ◌+◌, ◌<◌, ◌≤◌, Bool, true, false, cond, List, [], ◌∷◌, ◌++◌, length, take, drop, refl, sym, ap, ◌∙◌, subst, arith, Result, Ok, Err, None, length-append}
+use Rattle.std.proofs.Common.{◌≡◌, ◌≢◌, ℕ, ◌+◌, ◌<◌, ◌≤◌, Bool, true, false, cond, List, [], ◌∷◌, ◌++◌, length, refl, sym, ap, ◌∙◌, subst, arith, Result, Ok, Err, None}
 use Rattle.std.proofs.lemmas.Bool.Decides.{nat_tests}
 use Rattle.std.proofs.lemmas.List.Elements.{All-head, All-tail, All-nil, All-cons}
 use Rattle.std.specs.Prelude.{All, nat_lt, ◌==◌}
@@ -14,7 +14,7 @@ use Rattle.hd_path.specs.Names.{identifier_len, IsName}
 use Rattle.hd_path.specs.Paths.{slashed, path_text, IsPath}
 use Rattle.hd_path.specs.Parsing.{is_slash, pieces, name_at, before_names, names_at, parsed}
 use Rattle.hd_path.specs.Laws.{TextSpellsPath, SpelledPathHasText}
-use Rattle.hd_path.proofs.Bytes.{Plain, AllPlain, names_plain, name_not_empty, identifier_len-identifier, identifier-identifier_len, identifier_len-le}
+use Rattle.hd_path.proofs.Bytes.{AllPlain, names_plain, name_not_empty, identifier_len-identifier, identifier-identifier_len, identifier_len-le}
 use Rattle.hd_path.proofs.Slashes.{slashed-pieces, pieces-slashed, is_slash_is}
 
 -- the choice of name_at, for any lengths
@@ -149,21 +149,9 @@ without_fault text (Err fault) e h = absurd (cc)
 pub spells : (text : List ℕ) → None ≡ result_err (parsed text) → (path : List (List ℕ)) × Spells text path
 spells text h = without_fault text (parsed text) refl h
 
--- the text of one byte is that of the root
-root_only : (path : List (List ℕ)) → IsPath path → length (path_text path) ≡ 1 → path ≡ []
-root_only [] h one = refl
-root_only (name ∷ names) h one =
-    let some = name_not_empty name (All-head IsName name names h.named) in
-    absurd (omega (arith, length-append name (slashed names)))
-
 not_root : (path : List (List ℕ)) → length (path_text path) ≢ 1 → path_text path ≡ slashed path
 not_root [] more = absurd (more refl)
 not_root (name ∷ names) more = refl
-
-pub parsed-root : (text : List ℕ) → None ≡ result_err (parsed text) → length text ≡ 1 → parsed text ≡ Ok []
-parsed-root text h one =
-    let found = spells text h in
-    found.1.is ∙ ap (λ (p : List (List ℕ)). Ok p) (root_only found.0 found.1.path (ap length found.1.text ∙ one))
 
 pub parsed-slashed : (text : List ℕ) → None ≡ result_err (parsed text) → length text ≢ 1 → IsSlashed text × (parsed text ≡ Ok (names_in text))
 parsed-slashed text h more =

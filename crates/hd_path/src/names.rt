@@ -49,7 +49,8 @@ pub(crate) fn identifier_len_at(text: &[u8], start: usize) -> usize
     identifier_len(&text[start..])
 }
 
-/// The first fault of the names that stand between slashes in `rest`, which begins at `place` of the whole text.
+/// The first fault of the names that stand between slashes in `rest`, which begins at `place` of the whole text,
+/// behind so many names.
 #[tactic(auto, using(crate::proofs::Scanning::scan_steps))]
 fn check_names(rest: &[u8], place: usize, before: usize) -> Result<(), PathFault>
     requires room { place + length rest.now < 2 ^ 64 }

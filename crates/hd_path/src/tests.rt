@@ -2,6 +2,7 @@
 
 use crate::{Path, PathFault, Token};
 use std::alloc::{AllocError, Global};
+use std::cmp::Ordering;
 use std::collections::BTreeMap;
 use std::test::Fail;
 
@@ -74,8 +75,7 @@ fn faults_of_a_text(rt: HostRuntime) -> Result<(), Fail> {
     ] {
         assert_eq!(rt;
             Path::parse(rt.alloc(), text).err(),
-            Some(PathFault::Syntax { at }),
-            "{text}"
+            Some(PathFault::Syntax { at })
         );
     }
     Ok(())
@@ -108,7 +108,7 @@ fn limits_of_a_text(rt: HostRuntime) -> Result<(), Fail> {
         assert_eq!(rt;
             Path::parse(rt.alloc(), text.as_str()).err(),
             fault,
-            "{count}{end}"
+            "{count} {end}"
         );
     }
     Ok(())
@@ -131,7 +131,7 @@ fn faults_of_a_child(rt: HostRuntime) -> Result<(), Fail> {
         assert_eq!(rt;
             full.child(rt.alloc(), name.as_str()).err(),
             Some(fault),
-            "{count}{end}"
+            "{count} {end}"
         );
     }
     Ok(())
@@ -151,7 +151,7 @@ fn prefixes(rt: HostRuntime) -> Result<(), Fail> {
     ] {
         let path = Path::parse(rt.alloc(), text)?;
         let prefix = Path::parse(rt.alloc(), prefix)?;
-        assert_eq!(rt; path.has_prefix(&prefix), has, "{text}");
+        assert_eq!(rt; path.has_prefix(&prefix), has);
     }
     Ok(())
 }
@@ -177,7 +177,7 @@ fn replaced_prefixes(rt: HostRuntime) -> Result<(), Fail> {
         ("/A", "/A", "/", "/"),
     ] {
         let want = Path::parse(rt.alloc(), want)?;
-        assert_eq!(rt; replaced(rt.alloc(), text, from, to)?, Some(want), "{text}");
+        assert_eq!(rt; replaced(rt.alloc(), text, from, to)?, Some(want));
     }
     let most = repeated(rt.alloc(), "/C", 31, "")?;
     let whole = repeated(rt.alloc(), "/C", 31, "/B")?;
@@ -190,22 +190,33 @@ fn replaced_prefixes(rt: HostRuntime) -> Result<(), Fail> {
     Ok(())
 }
 
+fn compared(alloc: Global, first: &str, second: &str) -> Result<Ordering, PathFault> {
+    Ok(Path::parse(alloc, first)?.cmp(&Path::parse(alloc, second)?))
+}
+
 #[test]
 fn order(rt: HostRuntime) -> Result<(), Fail> {
     let texts = [
         "/", "/A", "/A/A", "/A/B", "/A/b", "/A1", "/AB", "/AB/C", "/A_", "/Aa", "/B", "/_", "/a",
     ];
-    let mut places = BTreeMap::new(rt.alloc());
-    for (i, low) in texts.iter().enumerate() {
-        for (j, high) in texts.iter().enumerate() {
-            let first = Path::parse(rt.alloc(), low)?;
-            let second = Path::parse(rt.alloc(), high)?;
-            assert_eq!(rt; first.cmp(&second), i.cmp(&j), "{low} {high}");
-            assert_eq!(rt; first == second, i == j, "{low} {high}");
+    for i in 0..texts.len() {
+        for j in 0..texts.len() {
+            assert_eq!(rt;
+                compared(rt.alloc(), texts[i], texts[j])?,
+                i.cmp(&j),
+                "{i} {j}"
+            );
         }
-        places.insert(Path::parse(rt.alloc(), low)?, i)?;
     }
+    Ok(())
+}
+
+#[test]
+fn keys_of_a_map(rt: HostRuntime) -> Result<(), Fail> {
+    let mut places = BTreeMap::new(rt.alloc());
+    places.insert(Path::parse(rt.alloc(), "/AB")?, 2)?;
+    places.insert(Path::parse(rt.alloc(), "/A/B")?, 1)?;
     let wanted = Path::parse(rt.alloc(), "/AB")?;
-    assert_eq!(rt; places.get(&wanted).copied(), Some(6));
+    assert_eq!(rt; places.get(&wanted).copied(), Some(2));
     Ok(())
 }

@@ -7,7 +7,8 @@ use Rattle.hd_picture.specs.declared.edges.Weights.{Weights}
 use Rattle.hd_picture.specs.declared.projection.Place.{Place}
 use Rattle.hd_picture.specs.Coverage.{covers, edge, weights}
 use Rattle.hd_picture.specs.Shading.{IsBetween, IsInBox}
-use Rattle.hd_picture.proofs.Covers.{IsLeft, IsRight, covers_cases}
+use Rattle.hd_picture.proofs.Floors.{IsLeft}
+use Rattle.hd_picture.proofs.Covers.{IsRight, covers_cases}
 use Rattle.hd_picture.proofs.Integers.{mul-le-mul, mul-sub, neg-mul, sub-mul, triple_is}
 
 -- the edge function by the ways from the place to the ends

@@ -13,7 +13,8 @@ use Rattle.hd_picture.specs.Laws.{mirrored, turned}
 use Rattle.hd_picture.specs.Pixels.{fragment}
 use Rattle.hd_picture.specs.Shading.{fragment_by}
 use Rattle.hd_picture.specs.View.{projected}
-use Rattle.hd_picture.proofs.Covers.{IsLeft, IsRight, covers_cases, covers_left, covers_right, fragment_is, same_test}
+use Rattle.hd_picture.proofs.Floors.{IsLeft}
+use Rattle.hd_picture.proofs.Covers.{IsRight, covers_cases, covers_left, covers_right, fragment_is, same_test}
 use Rattle.hd_picture.proofs.Floors.{floor_both_signs}
 use Rattle.hd_picture.proofs.Integers.{mul-sub, neg-mul, sub-mul}
 

@@ -10,7 +10,7 @@ use Rattle.hd_picture.specs.Coverage.{covers, total, weights_seen}
 use Rattle.hd_picture.specs.Depth.{depth}
 use Rattle.hd_picture.specs.Pixels.{fragment}
 use Rattle.hd_picture.specs.Shading.{IsFront, IsFrontOf, IsSmall, fragment_by}
-use Rattle.hd_picture.proofs.Floors.{floor_both_signs}
+use Rattle.hd_picture.proofs.Floors.{IsLeft, floor_both_signs}
 use Rattle.hd_picture.proofs.Integers.{neg-mul}
 
 and_parts : (a b : Bool) → a && b ≡ true → (a ≡ true) × (b ≡ true)
@@ -28,13 +28,7 @@ or_right : (a b : Bool) → b ≡ true → a || b ≡ true
 or_right true b h = refl
 or_right false b h = h
 
--- no weight is below 0, or none is above
-pub record IsLeft (w : Weights) : Type 0 where
-  pub a : pos 0 ≤ℤ w.a
-  pub b : pos 0 ≤ℤ w.b
-  pub c : pos 0 ≤ℤ w.c
-  pub area : pos 0 <ℤ total w
-
+-- no weight is above 0
 pub record IsRight (w : Weights) : Type 0 where
   pub a : w.a ≤ℤ pos 0
   pub b : w.b ≤ℤ pos 0

@@ -68,8 +68,18 @@ floor_least n d m p h =
     let l : m <ℤ (floor_div n d +ℤ pos 1) = mul-lt_cancel d m (floor_div n d +ℤ pos 1) p (let g = floor_greatest n d p in omega (arith, below_in, le_out, lt_out)) in
     omega (arith, ints)
 
+-- no weight is below 0
+pub record IsLeft (w : Weights) : Type 0 where
+  pub a : pos 0 ≤ℤ w.a
+  pub b : pos 0 ≤ℤ w.b
+  pub c : pos 0 ≤ℤ w.c
+  pub area : pos 0 <ℤ total w
+
+pub front_left : (w : Weights) → IsFront w → IsLeft w
+front_left w h = record { a = h.a; b = h.b; c = h.c; area = h.area }
+
 -- the depth is between the least and the greatest z of the corners
-module _ (w : Weights) (tri : WorldTri) (front : IsFront w) (m : ℤ) where
+module _ (w : Weights) (tri : WorldTri) (front : IsLeft w) (m : ℤ) where
   times_total : total w *ℤ m ≡ w.a *ℤ m +ℤ w.b *ℤ m +ℤ w.c *ℤ m
   times_total = rw (add-mul (w.a +ℤ w.b) w.c m, add-mul w.a w.b m)
 
@@ -91,12 +101,12 @@ module _ (w : Weights) (tri : WorldTri) (front : IsFront w) (m : ℤ) where
 
 pub depth_within : (w : Weights) (tri : WorldTri) → IsFront w → IsTriWithin (2 ^ 24) tri → IsWithin (2 ^ 24) (depth w tri)
 depth_within w tri front h = record {
-  low = depth_least w tri front (neg_ℤ (pos (2 ^ 24))) h.a.z.low h.b.z.low h.c.z.low;
-  high = depth_most w tri front (pos (2 ^ 24)) h.a.z.high h.b.z.high h.c.z.high;
+  low = depth_least w tri (front_left w front) (neg_ℤ (pos (2 ^ 24))) h.a.z.low h.b.z.low h.c.z.low;
+  high = depth_most w tri (front_left w front) (pos (2 ^ 24)) h.a.z.high h.b.z.high h.c.z.high;
 }
 
 pub depth_flat : (w : Weights) (tri : WorldTri) → IsFront w → tri.a.z ≡ tri.b.z → tri.b.z ≡ tri.c.z → tri.a.z ≡ depth w tri
 depth_flat w tri front ab bc =
-    let l = depth_least w tri front tri.a.z (omega (arith, ints)) (omega (arith, ints)) (omega (arith, ints)) in
-    let m = depth_most w tri front tri.a.z (omega (arith, ints)) (omega (arith, ints)) (omega (arith, ints)) in
+    let l = depth_least w tri (front_left w front) tri.a.z (omega (arith, ints)) (omega (arith, ints)) (omega (arith, ints)) in
+    let m = depth_most w tri (front_left w front) tri.a.z (omega (arith, ints)) (omega (arith, ints)) (omega (arith, ints)) in
     omega (arith, ints)

@@ -10,11 +10,12 @@ use Rattle.hd_picture.specs.declared.draws.Draws.{Draws}
 use Rattle.hd_picture.specs.declared.draws.WorldTri.{WorldTri}
 use Rattle.hd_picture.specs.declared.edges.Weights.{Weights}
 use Rattle.hd_picture.specs.declared.nearest.Fragment.{Fragment}
+use Rattle.hd_picture.specs.declared.projection.Corners.{Corners}
 use Rattle.hd_picture.specs.declared.projection.Place.{Place}
 use Rattle.hd_picture.specs.Coverage.{covers, weights, weights_seen}
 use Rattle.hd_picture.specs.Limits.{IsFrameSize, IsPointWithin, IsTriWithin}
 use Rattle.hd_picture.specs.Pixels.{black, fragment, fragments, nearest, pixel}
-use Rattle.hd_picture.specs.Shading.{IsEdgeInReach, IsFrontOf, IsInBox, IsInReach, IsNearMiddle, fragment_by, nearer}
+use Rattle.hd_picture.specs.Shading.{IsEdgeInReach, IsFrontOf, IsInBox, IsInReach, IsNearMiddle, IsSeen, fragment_by, nearer}
 use Rattle.hd_picture.specs.View.{centre, projected}
 use Rattle.hd_picture.proofs.Boxes.{outside_box}
 use Rattle.hd_picture.proofs.Covers.{fragment_front, fragment_none}
@@ -35,30 +36,24 @@ edge_in_reach eye p r a b q ea eb he hp hr hq =
       from_y = record { low = omega (arith, ints); high = omega (arith, ints) };
     }
 
--- places that are where the eye sees the corners
-pub record IsSeen (eye : Vec3) (tri : WorldTri) (a b c : Place) : Type 0 where
-  pub at_a : a ≡ projected eye tri.a
-  pub at_b : b ≡ projected eye tri.b
-  pub at_c : c ≡ projected eye tri.c
-
-module _ (eye : Vec3) (tri : WorldTri) (a b c q : Place) (seen : IsSeen eye tri a b c) where
-  pub in_reach : IsPointWithin (2 ^ 30) eye → IsTriWithin (2 ^ 24) tri → IsNearMiddle q → IsInReach a b c q
+module _ (eye : Vec3) (tri : WorldTri) (at : Corners) (q : Place) (seen : IsSeen eye tri at) where
+  pub in_reach : IsPointWithin (2 ^ 30) eye → IsTriWithin (2 ^ 24) tri → IsNearMiddle q → IsInReach at.a at.b at.c q
   in_reach he ht hq = record {
-    ab = edge_in_reach eye tri.a tri.b a b q seen.at_a seen.at_b he ht.a ht.b hq;
-    bc = edge_in_reach eye tri.b tri.c b c q seen.at_b seen.at_c he ht.b ht.c hq;
-    ca = edge_in_reach eye tri.c tri.a c a q seen.at_c seen.at_a he ht.c ht.a hq;
+    ab = edge_in_reach eye tri.a tri.b at.a at.b q seen.at_a seen.at_b he ht.a ht.b hq;
+    bc = edge_in_reach eye tri.b tri.c at.b at.c q seen.at_b seen.at_c he ht.b ht.c hq;
+    ca = edge_in_reach eye tri.c tri.a at.c at.a q seen.at_c seen.at_a he ht.c ht.a hq;
   }
 
-  pub same_weights : weights a b c q ≡ weights_seen eye tri q
+  pub same_weights : weights at.a at.b at.c q ≡ weights_seen eye tri q
   same_weights = rw (seen.at_a, seen.at_b, seen.at_c)
 
-  pub nothing_outside : ¬ (IsInBox a b c q) → fragment eye q tri ≡ None
-  nothing_outside out = fragment_none eye q tri (ap covers (sym same_weights) ∙ outside_box a b c q out)
+  pub nothing_outside : ¬ (IsInBox at.a at.b at.c q) → fragment eye q tri ≡ None
+  nothing_outside out = fragment_none eye q tri (ap covers (sym same_weights) ∙ outside_box at.a at.b at.c q out)
 
-  pub nothing_uncovered : (w : Weights) → w ≡ weights a b c q → covers w ≡ false → fragment eye q tri ≡ None
+  pub nothing_uncovered : (w : Weights) → w ≡ weights at.a at.b at.c q → covers w ≡ false → fragment eye q tri ≡ None
   nothing_uncovered w e h = fragment_none eye q tri (ap covers (sym (e ∙ same_weights)) ∙ h)
 
-  pub shown_by_front : (w front : Weights) → w ≡ weights a b c q → IsFrontOf w front → fragment eye q tri ≡ fragment_by front tri eye.z
+  pub shown_by_front : (w front : Weights) → w ≡ weights at.a at.b at.c q → IsFrontOf w front → fragment eye q tri ≡ fragment_by front tri eye.z
   shown_by_front w front e h = fragment_front eye q tri front (let P : Weights → Type 0 = λ v. IsFrontOf v front in subst P (e ∙ same_weights) h)
 
 -- a place of the frame

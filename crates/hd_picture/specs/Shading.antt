@@ -1,13 +1,16 @@
 -- What the code needs and keeps on its way to a pixel.
 use Rattle.std.specs.Prelude.{◌≡◌, ◌^◌, Bool, true, false, Option, Some, None, ℤ, pos, ◌+ℤ◌, ◌-ℤ◌, ◌*ℤ◌, ◌≤ℤ◌, ◌<ℤ◌, int_le, if◌then◌else◌}
 use Rattle.std.specs.Int.{int_max, int_min}
+use Rattle.hd_num.specs.declared.vector.Vec3.{Vec3}
 use Rattle.hd_picture.specs.declared.draws.WorldTri.{WorldTri}
 use Rattle.hd_picture.specs.declared.edges.Weights.{Weights}
 use Rattle.hd_picture.specs.declared.nearest.Fragment.{Fragment}
+use Rattle.hd_picture.specs.declared.projection.Corners.{Corners}
 use Rattle.hd_picture.specs.declared.projection.Place.{Place}
 use Rattle.hd_picture.specs.Coverage.{covers, total}
 use Rattle.hd_picture.specs.Depth.{depth}
 use Rattle.hd_picture.specs.Limits.{IsWithin}
+use Rattle.hd_picture.specs.View.{projected}
 
 -- near enough for the edge function in 64 bits
 pub record IsEdgeInReach (a b q : Place) : Type 0 where
@@ -81,3 +84,9 @@ hides (Some best) depth = int_le depth best.depth
 abbrev pub nearer : Option Fragment → Option Fragment → Option Fragment
 nearer best None = best
 nearer best (Some f) = if hides best f.depth then best else Some f
+
+-- the corners of a triangle where the eye sees them
+pub record IsSeen (eye : Vec3) (tri : WorldTri) (seen : Corners) : Type 0 where
+  pub at_a : seen.a ≡ projected eye tri.a
+  pub at_b : seen.b ≡ projected eye tri.b
+  pub at_c : seen.c ≡ projected eye tri.c

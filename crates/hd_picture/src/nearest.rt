@@ -3,12 +3,12 @@
 ghost use Rattle.std.specs.Prelude.{◌≡◌, ◌<◌, ◌^◌, Some};
 ghost use Rattle.hd_picture.specs.Limits.{IsDrawable, IsPointWithin, IsTriWithin};
 ghost use Rattle.hd_picture.specs.Pixels.{fragment, pixel};
-ghost use Rattle.hd_picture.specs.Shading.{IsFront, IsNearMiddle, fragment_by, hides, nearer};
+ghost use Rattle.hd_picture.specs.Shading.{IsFront, IsNearMiddle, IsSeen, fragment_by, hides, nearer};
 
 use crate::depths::{depth_of, highest_of};
 use crate::draws::{Draws, WorldTri};
 use crate::edges::{Weights, front_of, is_in_box, weights_at};
-use crate::projection::{Place, centre_of, place_of};
+use crate::projection::{Corners, Place, centre_of, corners_of};
 use hd_num::{Rgb, Vec3};
 
 /// What one triangle shows at a place.
@@ -32,7 +32,7 @@ pub fn pixel(draws: &Draws, x: u32, y: u32) -> Rgb
     let q = centre_of(draws.width, draws.height, x, y);
     let mut best = None;
     for tri in draws.tris.items() {
-        best = nearest_with(best, draws.eye, q, tri);
+        best = nearest_with(best, draws.eye, q, tri, corners_of(draws.eye, tri));
     }
     match best {
         Some(fragment) => fragment.color,
@@ -40,39 +40,38 @@ pub fn pixel(draws: &Draws, x: u32, y: u32) -> Rgb
     }
 }
 
-/// The nearest fragment at a place after one more triangle.
-fn nearest_with(best: Option<Fragment>, eye: Vec3, q: Place, tri: &WorldTri) -> Option<Fragment>
+/// The nearest fragment at a place after one more triangle, whose corners are seen there.
+pub fn nearest_with(
+    best: Option<Fragment>,
+    eye: Vec3,
+    q: Place,
+    tri: &WorldTri,
+    seen: Corners,
+) -> Option<Fragment>
     requires eye { IsPointWithin (2 ^ 30) eye }
     requires place { IsNearMiddle q }
     requires corners { IsTriWithin (2 ^ 24) tri.now }
+    requires seen { IsSeen eye tri.now seen }
     ensures { result ≡ nearer best (fragment eye q tri.now) }
 {
-    let a = place_of(eye, tri.a);
-    let b = place_of(eye, tri.b);
-    let c = place_of(eye, tri.c);
-    if !is_in_box(a, b, c, q) {
+    if is_hidden(best, highest_of(tri)) {
         return best;
     }
-    match front_of(weights_at(a, b, c, q)) {
+    if !is_in_box(seen.a, seen.b, seen.c, q) {
+        return best;
+    }
+    match front_of(weights_at(seen.a, seen.b, seen.c, q)) {
         Some(w) => nearest_by(best, w, tri, eye.z),
         None => best,
     }
 }
 
 /// The nearest fragment after a triangle that covers the place by these weights.
-pub fn nearest_by(
-    best: Option<Fragment>,
-    w: Weights,
-    tri: &WorldTri,
-    eye_z: i64,
-) -> Option<Fragment>
+fn nearest_by(best: Option<Fragment>, w: Weights, tri: &WorldTri, eye_z: i64) -> Option<Fragment>
     requires front { IsFront w }
     requires corners { IsTriWithin (2 ^ 24) tri.now }
     ensures { result ≡ nearer best (fragment_by w tri.now eye_z) }
 {
-    if is_hidden(best, highest_of(tri)) {
-        return best;
-    }
     let depth = depth_of(w, tri);
     if depth > eye_z {
         return best;

@@ -1,9 +1,11 @@
 //! From the world and from pixels to places of the picture.
 
 ghost use Rattle.std.specs.Prelude.{◌≡◌, ◌^◌, pos, ◌-ℤ◌, ◌*ℤ◌};
-ghost use Rattle.hd_picture.specs.Limits.{IsPointWithin, IsWithin};
+ghost use Rattle.hd_picture.specs.Limits.{IsPointWithin, IsTriWithin, IsWithin};
+ghost use Rattle.hd_picture.specs.Shading.{IsSeen};
 ghost use Rattle.hd_picture.specs.View.{centre, projected};
 
+use crate::draws::WorldTri;
 use hd_num::Vec3;
 
 /// A place of the picture. One pixel is two units wide and two high, and the middle of the picture
@@ -12,6 +14,14 @@ use hd_num::Vec3;
 pub struct Place {
     pub x: i64,
     pub y: i64,
+}
+
+/// The corners of a triangle where an eye sees them.
+#[derive(Clone, Copy)]
+pub struct Corners {
+    pub a: Place,
+    pub b: Place,
+    pub c: Place,
 }
 
 /// The centre of the pixel in column `x` of row `y`.
@@ -24,8 +34,21 @@ pub fn centre_of(width: u32, height: u32, x: u32, y: u32) -> Place
     }
 }
 
+/// Where the eye sees the corners of a triangle.
+pub fn corners_of(eye: Vec3, tri: &WorldTri) -> Corners
+    requires eye { IsPointWithin (2 ^ 30) eye }
+    requires corners { IsTriWithin (2 ^ 24) tri.now }
+    ensures { IsSeen eye tri.now result }
+{
+    Corners {
+        a: place_of(eye, tri.a),
+        b: place_of(eye, tri.b),
+        c: place_of(eye, tri.c),
+    }
+}
+
 /// Where the eye sees a point of the world.
-pub fn place_of(eye: Vec3, point: Vec3) -> Place
+fn place_of(eye: Vec3, point: Vec3) -> Place
     requires eye { IsPointWithin (2 ^ 30) eye }
     requires point { IsPointWithin (2 ^ 24) point }
     ensures { result ≡ projected eye point }

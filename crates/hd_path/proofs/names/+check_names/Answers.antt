@@ -1,4 +1,4 @@
-use Rattle.std.proofs.Common.{◌≡◌, ℕ, ◌+◌, ◌-◌, ◌<◌, ◌≤◌, List, [], ◌∷◌, ◌++◌, length, take, drop, get_or, refl, sym, ap, ◌∙◌, arith}
+use Rattle.std.proofs.Common.{ℕ, ◌+◌, List, sym, ap, ◌∙◌, arith}
 use Rattle.std.specs.Result.{result_err}
 use Rattle.hd_path.specs.Parsing.{names_at, pieces}
 use Rattle.hd_path.proofs.Building.{part_rest}

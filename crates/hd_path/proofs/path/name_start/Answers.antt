@@ -1,4 +1,4 @@
-use Rattle.std.proofs.Common.{◌≡◌, ℕ, ◌+◌, ◌-◌, ◌<◌, ◌≤◌, List, [], ◌∷◌, ◌++◌, length, take, drop, get_or, refl, sym, ap, ◌∙◌, arith}
+use Rattle.std.proofs.Common.{sym, arith}
 use Rattle.hd_path.specs.Texts.{names_in}
 use Rattle.hd_path.proofs.Building.{BeginsName, begins_name}
 use Rattle.hd_path.proofs.path.name_start.Goals as goal

@@ -1,10 +1,16 @@
-use Rattle.std.proofs.Common.{◌∙◌, ap, sym}
+use Rattle.std.proofs.Common.{◌∙◌, ap, arith, sym, subst}
 use Rattle.std.specs.Option.{option_map_or}
 use Rattle.hd_picture.specs.declared.nearest.Fragment.{Fragment}
 use Rattle.hd_picture.specs.Pixels.{black}
+use Rattle.hd_picture.specs.Shading.{IsNearMiddle}
 use Rattle.hd_picture.proofs.NearestLemmas.{nearest-nil}
-use Rattle.hd_picture.proofs.Steps.{nearest_step, pixel_is}
+use Rattle.hd_picture.proofs.Steps.{centre_near, nearest_step, pixel_is}
 use Rattle.hd_picture.proofs.nearest.pixel.Goals as goal
+
+pub nearest_with-best-requires-clause-place : goal.nearest_with-best-requires-clause-place
+nearest_with-best-requires-clause-place c =
+    subst IsNearMiddle (sym c.centre_of-q.ensures)
+    (centre_near c.args.draws.now.width c.args.draws.now.height c.args.x c.args.y c.requires.drawable.width c.requires.drawable.height (omega arith) (omega arith))
 
 pub loop-tri-init : goal.loop-tri-init
 loop-tri-init c = sym nearest-nil

@@ -1,8 +1,11 @@
-use Rattle.std.proofs.Common.{◌≡◌, ℕ, ◌+◌, ◌/◌, ◌%◌, ◌<◌, slice_index_or}
-use Rattle.hd_picture.specs.Pixels.{black}
-use Rattle.hd_picture.specs.Tiling.{pixel_or_black}
+use Rattle.std.proofs.Common.{◌≡◌, ℕ, ◌<◌, None, slice_index_or, take}
+use Rattle.hd_picture.specs.Pixels.{fragments, nearest}
+use Rattle.hd_picture.specs.Tiling.{IsFloor, sample}
 use Rattle.hd_picture.proofs.tiles.tile.Given as goal
 
--- the pixels so far
-abbrev pub invariant-loop-i : goal.invariant-loop-i
-invariant-loop-i l = (k : ℕ) → k < l.i → slice_index_or l.block k black ≡ pixel_or_black l.draws (l.left + k % 16) (l.top + k / 16)
+-- each pixel's nearest of the triangles so far, and a depth that they all hide
+abbrev pub invariant-loop-tri : goal.invariant-loop-tri
+invariant-loop-tri l = record {
+  nearest_of : (k : ℕ) → k < 256 → slice_index_or l.cells k None ≡ nearest (fragments l.draws.eye (sample l.window k) (take l.tri-index l.tris));
+  floor : IsFloor l.cells l.floor;
+}

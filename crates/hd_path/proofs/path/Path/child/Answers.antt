@@ -1,4 +1,4 @@
-use Rattle.std.proofs.Common.{◌≡◌, ℕ, ◌+◌, ◌-◌, ◌<◌, ◌≤◌, List, [], ◌∷◌, ◌++◌, length, take, drop, get_or, refl, sym, ap, ◌∙◌, arith}
+use Rattle.std.proofs.Common.{◌≡◌, length, ap, arith}
 use Rattle.hd_path.specs.Names.{identifier_len}
 use Rattle.hd_path.proofs.Bytes.{identifier-identifier_len, identifier_len-le}
 use Rattle.hd_path.proofs.path.Path.child.Goals as goal

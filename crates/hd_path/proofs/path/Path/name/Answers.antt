@@ -1,4 +1,4 @@
-use Rattle.std.proofs.Common.{◌≡◌, ℕ, ◌+◌, ◌-◌, ◌<◌, ◌≤◌, List, [], ◌∷◌, ◌++◌, length, take, drop, get_or, refl, sym, ap, ◌∙◌, arith}
+use Rattle.std.proofs.Common.{ℕ, ◌+◌, List, length, take, drop, ap, ◌∙◌, arith}
 use Rattle.hd_path.specs.Names.{identifier_len}
 use Rattle.hd_path.specs.Paths.{slashed}
 use Rattle.hd_path.proofs.Building.{begins_name, IsSlashed-from_names, names_in-from_names, cut_at, part_is}

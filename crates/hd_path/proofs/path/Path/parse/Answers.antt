@@ -1,10 +1,10 @@
-use Rattle.std.proofs.Common.{◌≡◌, ℕ, ◌+◌, ◌-◌, ◌<◌, ◌≤◌, List, [], ◌∷◌, ◌++◌, length, take, drop, get_or, refl, sym, ap, ◌∙◌, arith}
+use Rattle.std.proofs.Common.{ℕ, List, sym, ap, ◌∙◌}
 use Rattle.std.proofs.Common.{rules}
 use Rattle.std.specs.Prelude.{Ok}
 use Rattle.std.specs.Result.{result_err}
 use Rattle.hd_path.specs.Faults.{Gives}
 use Rattle.hd_path.specs.Parsing.{parsed}
-use Rattle.hd_path.proofs.Spelling.{parsed-slashed, parsed-root, gives_path, spelled_path_has_text}
+use Rattle.hd_path.proofs.Spelling.{parsed-slashed, gives_path, spelled_path_has_text}
 use Rattle.hd_path.proofs.path.Path.parse.Goals as goal
 
 pub returns-in_err-check_path-clause-only : goal.returns-in_err-check_path-clause-only

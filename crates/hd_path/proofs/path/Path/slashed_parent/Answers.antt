@@ -1,4 +1,4 @@
-use Rattle.std.proofs.Common.{◌≡◌, ℕ, ◌+◌, ◌-◌, ◌<◌, ◌≤◌, List, [], ◌∷◌, ◌++◌, length, take, drop, get_or, refl, sym, ap, ◌∙◌, arith}
+use Rattle.std.proofs.Common.{◌≡◌, ◌+◌, ◌-◌, length, take, ap, ◌∙◌, arith}
 use Rattle.hd_path.specs.Paths.{slashed}
 use Rattle.hd_path.proofs.Building.{last_name_begins, cut_at, take-last, IsPath-take, front_part}
 use Rattle.hd_path.proofs.path.Path.slashed_parent.Goals as goal

@@ -1,4 +1,4 @@
-use Rattle.std.proofs.Common.{◌≡◌, ℕ, ◌+◌, ◌-◌, ◌<◌, ◌≤◌, List, [], ◌∷◌, ◌++◌, length, take, drop, get_or, refl, sym, ap, ◌∙◌, arith}
+use Rattle.std.proofs.Common.{◌≡◌, [], ◌∷◌, ◌++◌, arith}
 use Rattle.hd_path.proofs.Building.{IsSlashed-from_names, names_in-from_names, IsPath-push, pushed_name, path_known}
 use Rattle.std.specs.String.{string_bytes}
 use Rattle.hd_path.specs.Paths.{slashed}

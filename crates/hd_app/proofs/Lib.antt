@@ -1,0 +1,12 @@
+pub mod Counting
+pub mod CutLemmas
+pub mod EndLemmas
+pub mod Fanning
+pub mod FrameLemmas
+pub mod Naming
+pub mod Nearness
+pub mod Reading
+pub mod WritingLemmas
+pub mod RunLemmas
+pub mod TileLemmas
+pub mod TopLemmas

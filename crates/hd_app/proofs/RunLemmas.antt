@@ -1,0 +1,159 @@
+-- How the parts of a run make the run.
+use Rattle.std.proofs.Common.{◌≡◌, ◌⊎◌, ℕ, ◌∙◌, List, [], ◌∷◌, Option, Some, None, Ok, Err, refl, sym, ap, subst, inl, inr}
+use Rattle.std.proofs.Math.Seq.{take-nil}
+use Rattle.std.specs.Prelude.{IfSome}
+use Rattle.hd_usda.specs.declared.layer.FirstLayer.{FirstLayer}
+use Rattle.hd_io.specs.Causes.{Rose}
+use Rattle.hd_io.specs.Files.{FileList, FileMap}
+use Rattle.hd_app.specs.declared.status.Status.{Status}
+use Rattle.hd_app.specs.declared.status.Status.TheVariants.{Done, Usage, Layer, Limit, ReadFault, WriteFault, NoMemory}
+use Rattle.hd_app.specs.Acts.{Act, file, line, Cut, Outside, Adds, WroteCut}
+use Rattle.hd_app.specs.Commands.{Draw}
+use Rattle.hd_app.specs.Endings.{Ends, IsReadFault}
+use Rattle.hd_app.specs.Outcomes.{Outcome, outcome_of, drawn, drawn_if_read, refused, layer_in}
+use Rattle.hd_app.specs.Runs.{ShelfState, RefusesLayer, IsAnswerTo, Runs}
+
+-- nothing is a beginning of any acts
+cut_nothing : (acts : List Act) → Cut acts [] []
+cut_nothing [] = (refl, refl)
+cut_nothing (file name bytes ∷ acts) = inl (refl, refl)
+cut_nothing (line bytes ∷ acts) = inl (refl, refl)
+
+-- of a line without bytes nothing can be written
+empty_line : (files : FileList) (text : List ℕ) → Cut (line [] ∷ []) files text → (files ≡ []) × (text ≡ [])
+empty_line files text (inl none) = none
+empty_line files text (inr (inl part)) = (part.2, part.3 ∙ take-nil part.0)
+empty_line files text (inr (inr whole)) = (whole.2.0, whole.1 ∙ whole.2.1)
+
+of_nothing : (acts : List Act) (before now : Outside) → WroteCut (line [] ∷ []) before now → WroteCut acts before now
+of_nothing acts before now cut =
+    let none = empty_line cut.0 cut.1 cut.2 in
+    let A : FileList → Type 0 = λ files. Adds files cut.1 before now in
+    let B : List ℕ → Type 0 = λ text. Adds [] text before now in
+    ([], [], cut_nothing acts, subst B none.1 (subst A none.0 cut.3))
+
+-- a run that has no memory to refuse or to draw ends in any outcome's way
+pub for_want_of_memory : (due : Outcome) (before now : Outside) (status : Status) → Ends (refused NoMemory) before now status → Ends due before now status
+for_want_of_memory due before now status (inl whole) =
+    inr (inr (record { ending = whole.ending; written = ([], [], cut_nothing due.acts, whole.written); faults = whole.faults }))
+for_want_of_memory due before now status (inr (inl off)) =
+    inr (inl (record { ending = off.ending; written = of_nothing due.acts before now off.written; faults = off.faults }))
+for_want_of_memory due before now status (inr (inr out)) =
+    inr (inr (record { ending = out.ending; written = of_nothing due.acts before now out.written; faults = out.faults }))
+
+-- the outcome of the files where they are told, and any other where they are not
+due_of : Option Draw → Option FileMap → Outcome → Outcome
+due_of draw None other = other
+due_of draw (Some files) other = outcome_of files draw
+
+told_due : (draw : Option Draw) (told : Option FileMap) (other : Outcome) → IfSome told (λ files. outcome_of files draw ≡ due_of draw told other)
+unfolding due_of
+told_due draw None other = tt
+told_due draw (Some files) other = refl
+
+-- what holds of the outcome's own ending and of those of a run that is broken off holds of the status
+ended : (P : Status → Type 0) (outcome : Outcome) (before now : Outside) (status : Status) → P outcome.ending → P WriteFault → P NoMemory → Ends outcome before now status → P status
+ended P outcome before now status own fault memory (inl whole) = subst P (sym whole.ending) own
+ended P outcome before now status own fault memory (inr (inl off)) = subst P (sym off.ending) fault
+ended P outcome before now status own fault memory (inr (inr out)) = subst P (sym out.ending) memory
+
+answers : (draw : Option Draw) (shelf : ShelfState) (outcome : Outcome) (before now : Outside) (status : Status)
+    → IsAnswerTo draw shelf outcome.ending → Ends outcome before now status → IsAnswerTo draw shelf status
+answers draw shelf outcome before now status own ends = ended (IsAnswerTo draw shelf) outcome before now status own tt tt ends
+
+no_read_fault : (outcome : Outcome) (before now : Outside) (status : Status)
+    → (IsReadFault outcome.ending → ⊥) → Ends outcome before now status → IsReadFault status → ⊥
+no_read_fault outcome before now status own ends = ended (λ s. IsReadFault s → ⊥) outcome before now status own (λ no. no) (λ no. no) ends
+
+-- a write fault has its cause, where it is not the outcome's own
+pub ends_in_fault : (due : Outcome) (before now : Outside) (status : Status) → (due.ending ≡ WriteFault → ⊥) → Ends due before now status → status ≡ WriteFault
+    → Rose before.rack_faults now.rack_faults ⊎ Rose before.sink_faults now.sink_faults
+ends_in_fault due before now status other (inl whole) is = absurd (other (sym whole.ending ∙ is))
+ends_in_fault due before now status other (inr (inl off)) is = off.faults
+ends_in_fault due before now status other (inr (inr out)) is = let no : NoMemory ≡ WriteFault = sym out.ending ∙ is in cc
+
+-- words that are no command
+pub usage_runs : (shelf : ShelfState) (before now : Outside) (status : Status) → Ends (refused Usage) before now status → Runs None shelf shelf before now status
+usage_runs shelf before now status ends = inl (record {
+  due = refused Usage;
+  ends = ends;
+  told = elim shelf.files as (λ told. IfSome told (λ files. outcome_of files None ≡ refused Usage)) [ None ↦ tt | Some files ↦ refl ];
+  faults = refl;
+  answer = answers None shelf (refused Usage) before now status refl ends;
+  read = no_read_fault (refused Usage) before now status (λ no. no) ends;
+  write = ends_in_fault (refused Usage) before now status (λ (no : Usage ≡ WriteFault). cc) ends;
+})
+
+told_drawn : (draw : Draw) (layer : FirstLayer) (told : Option FileMap) → IfSome told (λ files. layer_in files draw.layer ≡ Ok layer)
+    → IfSome told (λ files. outcome_of files (Some draw) ≡ drawn draw.out layer)
+told_drawn draw layer None read = tt
+told_drawn draw layer (Some files) read = ap (drawn_if_read draw.out) read
+
+-- a layer that was read is drawn
+pub drawn_runs : (draw : Draw) (layer : FirstLayer) (shelf_before shelf_now : ShelfState) (before now : Outside) (status : Status)
+    → IfSome shelf_before.files (λ files. layer_in files draw.layer ≡ Ok layer) → shelf_now.faults ≡ shelf_before.faults
+    → Ends (drawn draw.out layer) before now status → Runs (Some draw) shelf_before shelf_now before now status
+drawn_runs draw layer shelf_before shelf_now before now status read kept ends = inl (record {
+  due = drawn draw.out layer;
+  ends = ends;
+  told = told_drawn draw layer shelf_before.files read;
+  faults = kept;
+  answer = answers (Some draw) shelf_now (drawn draw.out layer) before now status refl ends;
+  read = no_read_fault (drawn draw.out layer) before now status (λ no. no) ends;
+  write = ends_in_fault (drawn draw.out layer) before now status (λ (no : Done ≡ WriteFault). cc) ends;
+})
+
+told_refused : (draw : Draw) (refusal : Status) (told : Option FileMap) → IfSome told (λ files. layer_in files draw.layer ≡ Err refusal)
+    → IfSome told (λ files. outcome_of files (Some draw) ≡ refused refusal)
+told_refused draw refusal None read = tt
+told_refused draw refusal (Some files) read = ap (drawn_if_read draw.out) read
+
+-- a layer that was refused is told
+pub refused_runs : (draw : Draw) (refusal : Status) (shelf_before shelf_now : ShelfState) (before now : Outside) (status : Status)
+    → RefusesLayer draw.layer shelf_before shelf_now refusal
+    → Ends (refused refusal) before now status → Runs (Some draw) shelf_before shelf_now before now status
+refused_runs draw (ReadFault name) shelf_before shelf_now before now status why ends = inr (record {
+  layer = name;
+  named = why.0;
+  failed = record { rose = why.1.rose; named = why.1.named ∙ ap (λ (n : List ℕ). Some n) (sym why.0) };
+  ends = ends;
+})
+refused_runs draw (Layer name row word) shelf_before shelf_now before now status why ends = inl (record {
+  due = refused (Layer name row word);
+  ends = ends;
+  told = told_refused draw (Layer name row word) shelf_before.files why.2;
+  faults = why.0;
+  answer = answers (Some draw) shelf_now (refused (Layer name row word)) before now status why.1 ends;
+  read = no_read_fault (refused (Layer name row word)) before now status (λ no. no) ends;
+  write = ends_in_fault (refused (Layer name row word)) before now status (λ (no : Layer name row word ≡ WriteFault). cc) ends;
+})
+refused_runs draw (Limit place which count) shelf_before shelf_now before now status why ends = inl (record {
+  due = refused (Limit place which count);
+  ends = ends;
+  told = told_refused draw (Limit place which count) shelf_before.files why.5;
+  faults = why.0;
+  answer = answers (Some draw) shelf_now (refused (Limit place which count)) before now status (why.1, why.2, why.3, why.4) ends;
+  read = no_read_fault (refused (Limit place which count)) before now status (λ no. no) ends;
+  write = ends_in_fault (refused (Limit place which count)) before now status (λ (no : Limit place which count ≡ WriteFault). cc) ends;
+})
+refused_runs draw NoMemory shelf_before shelf_now before now status why ends = inl (record {
+  due = due_of (Some draw) shelf_before.files (refused NoMemory);
+  ends = for_want_of_memory (due_of (Some draw) shelf_before.files (refused NoMemory)) before now status ends;
+  told = told_due (Some draw) shelf_before.files (refused NoMemory);
+  faults = why;
+  answer = answers (Some draw) shelf_now (refused NoMemory) before now status tt ends;
+  read = no_read_fault (refused NoMemory) before now status (λ no. no) ends;
+  write = ends_in_fault (refused NoMemory) before now status (λ (no : NoMemory ≡ WriteFault). cc) ends;
+})
+refused_runs draw Done shelf_before shelf_now before now status why ends = absurd why
+refused_runs draw Usage shelf_before shelf_now before now status why ends = absurd why
+refused_runs draw WriteFault shelf_before shelf_now before now status why ends = absurd why
+
+-- a refusal is never answered as done
+pub refused_not_done : (refusal : Status) (before now : Outside) (status : Status) → (refusal ≡ Done → ⊥) → Ends (refused refusal) before now status → status ≡ Done → ⊥
+refused_not_done refusal before now status other (inl whole) done = other (sym whole.ending ∙ done)
+refused_not_done refusal before now status other (inr (inl off)) done = let no : WriteFault ≡ Done = sym off.ending ∙ done in cc
+refused_not_done refusal before now status other (inr (inr out)) done = let no : NoMemory ≡ Done = sym out.ending ∙ done in cc
+
+pub layer_not_done : (name : List ℕ) (shelf_before shelf_now : ShelfState) (refusal : Status) → RefusesLayer name shelf_before shelf_now refusal → refusal ≡ Done → ⊥
+layer_not_done name shelf_before shelf_now refusal why done = subst (RefusesLayer name shelf_before shelf_now) done why

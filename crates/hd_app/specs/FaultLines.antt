@@ -1,0 +1,38 @@
+-- The lines that tell why a command was refused, and the numbers that the program ends with.
+use Rattle.std.specs.Prelude.{ℕ, List, [], ◌++◌, codes, decimal}
+use Rattle.hd_usda.specs.declared.fault.LayerWhy.{LayerWhy}
+use Rattle.hd_usda.specs.declared.fault.LayerWhy.TheVariants.{Later}
+use Rattle.hd_usda.specs.Limits.{word_of}
+use Rattle.hd_app.specs.declared.status.Status.{Status}
+use Rattle.hd_app.specs.declared.status.Status.TheVariants.{Done, Usage, Layer, Limit, ReadFault, WriteFault, NoMemory}
+use Rattle.hd_app.specs.declared.status.Place.{Place}
+use Rattle.hd_app.specs.declared.status.Place.TheVariants.{Words, File}
+
+-- what the program ends with
+abbrev pub number_of : Status → ℕ
+number_of Done = 0
+number_of Usage = 1
+number_of (Layer file line why) = 2
+number_of (Limit place which count) = 4
+number_of (ReadFault name) = 5
+number_of WriteFault = 6
+number_of NoMemory = 7
+
+-- the word for what is wrong with a layer
+abbrev pub why_word : LayerWhy → List ℕ
+why_word Later = codes "later"
+
+-- where a limit was passed
+abbrev pub place_text : Place → List ℕ
+place_text Words = codes "words"
+place_text (File name) = name
+
+-- the line that tells a refusal, with its line feed; the other endings have none
+abbrev pub fault_line : Status → List ℕ
+fault_line Usage = codes "fault usage\n"
+fault_line (Layer file line why) = codes "fault layer " ++ file ++ codes " line " ++ decimal line ++ codes " " ++ why_word why ++ codes "\n"
+fault_line (Limit place which count) = codes "fault limit " ++ word_of which ++ codes " " ++ decimal count ++ codes " at " ++ place_text place ++ codes "\n"
+fault_line (ReadFault name) = codes "fault read " ++ name ++ codes "\n"
+fault_line Done = []
+fault_line WriteFault = []
+fault_line NoMemory = []

@@ -1,0 +1,12 @@
+pub mod Acts
+pub mod Commands
+pub mod DrawWords
+pub mod Endings
+pub mod Fans
+pub mod FaultLines
+pub mod FirstDraws
+pub mod Frames
+pub mod NamedMeshes
+pub mod Outcomes
+pub mod Outside
+pub mod Runs

@@ -1,0 +1,74 @@
+-- What the program writes, and how it ends, by its words and the files that it reads.
+use Rattle.std.specs.Prelude.{ℕ, ◌++◌, pos, List, [], ◌∷◌, length, Option, Some, None, Result, Ok, Err, nat_lt, codes, if◌then◌else◌}
+use Rattle.hd_num.specs.declared.vector.Vec3.{Vec3}
+use Rattle.hd_picture.specs.declared.draws.Draws.{Draws}
+use Rattle.hd_picture.specs.Pixels.{picture}
+use Rattle.hd_picture.specs.Ppm.{ppm}
+use Rattle.hd_usda.specs.declared.fault.LayerWhy.TheVariants.{Later}
+use Rattle.hd_usda.specs.declared.layer.FirstLayer.{FirstLayer}
+use Rattle.hd_usda.specs.declared.limits.Which.TheVariants.{Bytes}
+use Rattle.hd_usda.specs.FirstLayers.{first_layer}
+use Rattle.hd_io.specs.Files.{FileMap, bytes_of}
+use Rattle.hd_app.specs.declared.status.Status.{Status}
+use Rattle.hd_app.specs.declared.status.Status.TheVariants.{Done, Usage, Layer, Limit, ReadFault}
+use Rattle.hd_app.specs.declared.status.Place.TheVariants.{File}
+use Rattle.hd_app.specs.Acts.{Act, file, line}
+use Rattle.hd_app.specs.Commands.{Draw, command}
+use Rattle.hd_app.specs.FaultLines.{fault_line}
+use Rattle.hd_app.specs.FirstDraws.{first_draws}
+use Rattle.hd_app.specs.Outside.{byte_limit}
+
+pub record Outcome : Type 0 where
+  pub acts : List Act
+  pub ending : Status
+
+-- a refusal tells itself by its line
+abbrev pub refused : Status → Outcome
+refused status = record { acts = line (fault_line status) ∷ []; ending = status }
+
+-- the place from which a frame is seen that names no camera
+abbrev pub default_eye : Vec3
+default_eye = record { x = pos 0; y = pos 0; z = pos 16777216 }
+
+-- the frame of a drawn layer: 64 by 64 pixels
+abbrev pub first_frame : FirstLayer → Draws
+first_frame layer = record { tris = first_draws layer; eye = default_eye; width = 64; height = 64 }
+
+abbrev pub frame_line : List ℕ → List ℕ
+frame_line name = codes "frame " ++ name ++ codes " converged 16 of 16\n"
+
+-- the picture of a layer, and the line of its frame
+abbrev pub drawn : List ℕ → FirstLayer → Outcome
+drawn out layer = record {
+  acts = file out (ppm 64 64 (picture (first_frame layer))) ∷ line (frame_line out) ∷ [];
+  ending = Done;
+}
+
+-- the layer that a file's bytes spell, or the refusal
+abbrev pub layer_spelled : List ℕ → Option FirstLayer → Result FirstLayer Status
+layer_spelled name None = Err (Layer name 1 Later)
+layer_spelled name (Some layer) = Ok layer
+
+abbrev pub layer_of_bytes : List ℕ → List ℕ → Result FirstLayer Status
+layer_of_bytes name bytes =
+    if nat_lt byte_limit (length bytes) then Err (Limit (File name) Bytes byte_limit) else layer_spelled name (first_layer bytes)
+
+-- the layer of this name, or the refusal
+abbrev pub layer_of_file : List ℕ → Option (List ℕ) → Result FirstLayer Status
+layer_of_file name None = Err (ReadFault name)
+layer_of_file name (Some bytes) = layer_of_bytes name bytes
+
+abbrev pub layer_in : FileMap → List ℕ → Result FirstLayer Status
+layer_in files name = layer_of_file name (bytes_of files name)
+
+abbrev pub drawn_if_read : List ℕ → Result FirstLayer Status → Outcome
+drawn_if_read out (Ok layer) = drawn out layer
+drawn_if_read out (Err status) = refused status
+
+abbrev pub outcome_of : FileMap → Option Draw → Outcome
+outcome_of files None = refused Usage
+outcome_of files (Some draw) = drawn_if_read draw.out (layer_in files draw.layer)
+
+-- what is written for these words over these files, and the status
+abbrev pub outcome : List (List ℕ) → FileMap → Outcome
+outcome words files = outcome_of files (command words)

@@ -1,0 +1,77 @@
+//! Layers, read by the names of their files.
+
+ghost use Rattle.std.specs.Prelude.{◌≡◌, ◌≤◌, length, IfOk, IfErr, IfSome, OnOk, Ok};
+ghost use Rattle.hd_app.specs.Outcomes.{layer_in, layer_of_bytes};
+ghost use Rattle.hd_app.specs.Outside.{byte_limit};
+ghost use Rattle.hd_app.specs.Runs.{shelf_state, status_of_stop, status_of_fault, RefusesBytes, RefusesLayer, ReadsWithin};
+
+use crate::outside::{ReadStop, read_file};
+use crate::status::{Place, Status};
+use hd_io::Shelf;
+use hd_num::List;
+use hd_usda::{FirstLayer, LayerFault, Which, read_first};
+use std::alloc::{AllocError, Global};
+
+/// The bytes of a name.
+fn name_of(alloc: Global, name: &str) -> Result<List<u8>, AllocError>
+    ensures { IfOk result (λ list. list ≡ name.now) }
+{
+    List::of(alloc, Vec::from_slice(alloc, name.as_bytes())?)
+}
+
+/// The refusal of a file that was not read to its end.
+fn stopped(file: List<u8>, stop: ReadStop) -> Status
+    ensures { result ≡ status_of_stop file stop }
+{
+    match stop {
+        ReadStop::Failed => Status::ReadFault { name: file },
+        ReadStop::TooLong => Status::Limit {
+            place: Place::File(file),
+            which: Which::Bytes,
+            count: Which::Bytes.number(),
+        },
+        ReadStop::NoMemory => Status::NoMemory,
+    }
+}
+
+/// The refusal of a file that spells no layer.
+fn unread(file: List<u8>, fault: LayerFault) -> Status
+    ensures { result ≡ status_of_fault file fault }
+{
+    match fault {
+        LayerFault::At { line, why } => Status::Layer { file, line, why },
+        LayerFault::NoMemory => Status::NoMemory,
+    }
+}
+
+/// Reads the layer of this name.
+pub fn read_layer<S: Shelf>(alloc: Global, shelf: &mut S, name: &str) -> Result<FirstLayer, Status>
+    ensures layer { IfOk result (λ layer. IfSome (S.files shelf.old) (λ files. layer_in files name.now ≡ Ok layer)) }
+    ensures kept { OnOk result (S.faults shelf.new ≡ S.faults shelf.old) }
+    ensures refusal { IfErr result (RefusesLayer name.now
+        (shelf_state (S.files shelf.old) (S.faults shelf.old) (S.failed shelf.old) (S.taken shelf.old))
+        (shelf_state (S.files shelf.new) (S.faults shelf.new) (S.failed shelf.new) (S.taken shelf.new))) }
+    ensures within { ReadsWithin
+        (shelf_state (S.files shelf.old) (S.faults shelf.old) (S.failed shelf.old) (S.taken shelf.old))
+        (shelf_state (S.files shelf.new) (S.faults shelf.new) (S.failed shelf.new) (S.taken shelf.new)) }
+{
+    let Ok(file) = name_of(alloc, name) else {
+        return Err(Status::NoMemory);
+    };
+    match read_file(alloc, shelf, name) {
+        Ok(bytes) => spelled(alloc, file, &bytes),
+        Err(stop) => Err(stopped(file, stop)),
+    }
+}
+
+/// The layer that a file's bytes spell.
+fn spelled(alloc: Global, file: List<u8>, bytes: &[u8]) -> Result<FirstLayer, Status>
+    requires { length bytes.now ≤ byte_limit }
+    ensures layer { IfOk result (λ layer. layer_of_bytes file bytes.now ≡ Ok layer) }
+    ensures refusal { IfErr result (RefusesBytes file bytes.now) }
+{
+    match read_first(alloc, bytes) {
+        Ok(layer) => Ok(layer),
+        Err(fault) => Err(unread(file, fault)),
+    }
+}

@@ -1,0 +1,16 @@
+//! The program: what the words of the command line do.
+#![tactic(auto)]
+
+mod frame;
+mod layer;
+mod meshes;
+mod outside;
+mod status;
+#[cfg(test)]
+mod tests;
+mod top;
+mod words;
+mod writing;
+
+pub use status::{Place, Status};
+pub use top::top_plain;

@@ -1,0 +1,156 @@
+//! How a run of the program ends.
+
+ghost use Rattle.std.specs.Prelude.{◌≡◌, ◌++◌, IfOk, OnOk, codes, decimal};
+ghost use Rattle.hd_usda.specs.Limits.{word_of};
+ghost use Rattle.hd_app.specs.FaultLines.{number_of, why_word, place_text, fault_line};
+
+use hd_num::List;
+use hd_usda::{LayerWhy, Which};
+use std::alloc::{AllocError, Global};
+
+/// Where a limit was passed.
+#[derive(Drop)]
+pub enum Place {
+    /// The words of the command line.
+    Words,
+    /// The file of this name.
+    File(List<u8>),
+}
+
+/// How a run ends.
+#[derive(Drop)]
+pub enum Status {
+    /// All was read, drawn and written.
+    Done,
+    /// The words are no command.
+    Usage,
+    /// The text of this file has this fault in this line, counted from 1.
+    Layer {
+        file: List<u8>,
+        line: u32,
+        why: LayerWhy,
+    },
+    /// A quantity passes its limit, which is this number.
+    Limit {
+        place: Place,
+        which: Which,
+        count: u64,
+    },
+    /// The file of this name could not be read.
+    ReadFault {
+        name: List<u8>,
+    },
+    /// A file or a line could not be written. Nothing more was written.
+    WriteFault,
+    /// Memory ran out. Nothing more was written.
+    NoMemory,
+}
+
+impl Status {
+    /// What the program ends with.
+    pub fn number(&self) -> u8
+        ensures { result ≡ number_of self.now }
+    {
+        match self {
+            Status::Done => 0,
+            Status::Usage => 1,
+            Status::Layer { .. } => 2,
+            Status::Limit { .. } => 4,
+            Status::ReadFault { .. } => 5,
+            Status::WriteFault => 6,
+            Status::NoMemory => 7,
+        }
+    }
+
+    /// The line that tells a refusal, with its line feed. The other endings have none.
+    pub(crate) fn fault_line(&self, alloc: Global) -> Result<Vec<u8>, AllocError>
+        ensures { IfOk result (λ line. line.items ≡ fault_line self.now) }
+    {
+        let mut text = Vec::new(alloc);
+        match self {
+            Status::Usage => text.extend_from_slice(b"fault usage\n")?,
+            Status::Layer { file, line, why } => {
+                push_layer(alloc, &mut text, file.items(), *line, *why)?;
+            }
+            Status::Limit {
+                place,
+                which,
+                count,
+            } => push_limit(alloc, &mut text, place, *which, *count)?,
+            Status::ReadFault { name } => push_read(&mut text, name.items())?,
+            Status::Done | Status::WriteFault | Status::NoMemory => {}
+        }
+        Ok(text)
+    }
+}
+
+/// The word for what is wrong with a layer.
+fn why_word(why: LayerWhy) -> &'static str
+    ensures { result.now ≡ why_word why }
+{
+    match why {
+        LayerWhy::Later => "later",
+    }
+}
+
+/// Adds the line of a layer's fault.
+fn push_layer(
+    alloc: Global,
+    text: &mut Vec<u8>,
+    file: &[u8],
+    line: u32,
+    why: LayerWhy,
+) -> Result<(), AllocError>
+    ensures { OnOk result (text.new.items ≡ text.old.items
+        ++ (codes "fault layer " ++ file.now ++ codes " line " ++ decimal line ++ codes " " ++ why_word why ++ codes "\n")) }
+{
+    text.extend_from_slice(b"fault layer ")?;
+    text.extend_from_slice(file)?;
+    text.extend_from_slice(b" line ")?;
+    text.extend_from_slice(line.to_string(alloc)?.as_bytes())?;
+    text.extend_from_slice(b" ")?;
+    text.extend_from_slice(why_word(why).as_bytes())?;
+    text.extend_from_slice(b"\n")?;
+    Ok(())
+}
+
+/// The text of a place where a limit was passed.
+fn place_text(place: &Place) -> &[u8]
+    ensures { result.now ≡ place_text place.now }
+{
+    match place {
+        Place::Words => b"words",
+        Place::File(name) => name.items(),
+    }
+}
+
+/// Adds the line of a limit that was passed.
+fn push_limit(
+    alloc: Global,
+    text: &mut Vec<u8>,
+    place: &Place,
+    which: Which,
+    count: u64,
+) -> Result<(), AllocError>
+    ensures { OnOk result (text.new.items ≡ text.old.items
+        ++ (codes "fault limit " ++ word_of which ++ codes " " ++ decimal count ++ codes " at " ++ place_text place.now ++ codes "\n")) }
+{
+    text.extend_from_slice(b"fault limit ")?;
+    text.extend_from_slice(which.word().as_bytes())?;
+    text.extend_from_slice(b" ")?;
+    text.extend_from_slice(count.to_string(alloc)?.as_bytes())?;
+    text.extend_from_slice(b" at ")?;
+    text.extend_from_slice(place_text(place))?;
+    text.extend_from_slice(b"\n")?;
+    Ok(())
+}
+
+/// Adds the line of a file that could not be read.
+fn push_read(text: &mut Vec<u8>, name: &[u8]) -> Result<(), AllocError>
+    ensures { OnOk result (text.new.items ≡ text.old.items ++ (codes "fault read " ++ name.now ++ codes "\n")) }
+{
+    text.extend_from_slice(b"fault read ")?;
+    text.extend_from_slice(name)?;
+    text.extend_from_slice(b"\n")?;
+    Ok(())
+}

@@ -1,0 +1,114 @@
+//! The call that the program makes.
+
+ghost use Rattle.std.specs.Prelude.{◌≡◌, ◌+◌, ◌≤◌, ◌⊎◌, Some, IfSome, false, map, max, string_bytes};
+ghost use Rattle.hd_io.specs.Causes.{Rose};
+ghost use Rattle.hd_app.specs.Acts.{outside, Wrote, NoFault};
+ghost use Rattle.hd_app.specs.Endings.{EndsWhole, IsDecided, IsReadFault, IsBrokenOff};
+ghost use Rattle.hd_app.specs.Outcomes.{outcome, refused};
+ghost use Rattle.hd_app.specs.Outside.{byte_limit};
+ghost use Rattle.hd_app.specs.Commands.{command};
+ghost use Rattle.hd_app.specs.DrawWords.{draw_seen};
+ghost use Rattle.hd_app.specs.Runs.{shelf_state, ReadsWithin, Runs, IsAnswerTo, BrokeOff};
+
+use crate::layer::read_layer;
+use crate::status::Status;
+use crate::words::{DrawWords, command};
+use crate::writing::{refuse, show};
+use hd_io::{Rack, Shelf, Sink};
+use std::alloc::Global;
+
+/// Draws one layer.
+fn draw<S: Shelf, R: Rack, O: Sink>(
+    alloc: Global,
+    words: DrawWords<'_>,
+    shelf: &mut S,
+    rack: &mut R,
+    out: &mut O,
+) -> Status
+    ensures runs { Runs (Some (draw_seen words.entry))
+        (shelf_state (S.files shelf.old) (S.faults shelf.old) (S.failed shelf.old) (S.taken shelf.old))
+        (shelf_state (S.files shelf.new) (S.faults shelf.new) (S.failed shelf.new) (S.taken shelf.new))
+        (outside (R.held rack.old) (R.faults rack.old) (O.held out.old) (O.faults out.old))
+        (outside (R.held rack.new) (R.faults rack.new) (O.held out.new) (O.faults out.new)) result }
+    ensures within { ReadsWithin
+        (shelf_state (S.files shelf.old) (S.faults shelf.old) (S.failed shelf.old) (S.taken shelf.old))
+        (shelf_state (S.files shelf.new) (S.faults shelf.new) (S.failed shelf.new) (S.taken shelf.new)) }
+    ensures closed { result ≡ Status.Done → R.is_open rack.new ≡ false }
+{
+    match read_layer(alloc, shelf, words.layer) {
+        Ok(layer) => show(alloc, &layer, words.out, rack, out),
+        Err(refusal) => refuse(alloc, refusal, out),
+    }
+}
+
+/// Does what the words say.
+fn run<S: Shelf, R: Rack, O: Sink>(
+    alloc: Global,
+    words: &[String],
+    shelf: &mut S,
+    rack: &mut R,
+    out: &mut O,
+) -> Status
+    ensures runs { Runs (command (map string_bytes words.now))
+        (shelf_state (S.files shelf.old) (S.faults shelf.old) (S.failed shelf.old) (S.taken shelf.old))
+        (shelf_state (S.files shelf.new) (S.faults shelf.new) (S.failed shelf.new) (S.taken shelf.new))
+        (outside (R.held rack.old) (R.faults rack.old) (O.held out.old) (O.faults out.old))
+        (outside (R.held rack.new) (R.faults rack.new) (O.held out.new) (O.faults out.new)) result }
+    ensures within { ReadsWithin
+        (shelf_state (S.files shelf.old) (S.faults shelf.old) (S.failed shelf.old) (S.taken shelf.old))
+        (shelf_state (S.files shelf.new) (S.faults shelf.new) (S.failed shelf.new) (S.taken shelf.new)) }
+    ensures closed { result ≡ Status.Done → R.is_open rack.new ≡ false }
+{
+    match command(words) {
+        Some(words) => draw(alloc, words, shelf, rack, out),
+        None => refuse(alloc, Status::Usage, out),
+    }
+}
+
+/// Does what the words of the command line say, those behind the program's name, and answers how it ended.
+///
+/// `draw LAYER OUT` reads the layer from the file `LAYER`, draws its meshes to a picture of 64 by 64 pixels, writes
+/// that to the file `OUT`, and then the line of its frame. Other words are no command. A refusal writes the one line
+/// that tells it. Where a write fails or memory runs out, nothing more is written.
+pub fn top_plain<S: Shelf, R: Rack, O: Sink>(
+    alloc: Global,
+    words: &[String],
+    shelf: &mut S,
+    rack: &mut R,
+    out: &mut O,
+) -> Status
+    // The answer, the files and the lines are those of the written outcome, and no object failed.
+    ensures outcome { IsDecided result → IfSome (S.files shelf.old) (λ files. EndsWhole (outcome (map string_bytes words.now) files)
+        (outside (R.held rack.old) (R.faults rack.old) (O.held out.old) (O.faults out.old))
+        (outside (R.held rack.new) (R.faults rack.new) (O.held out.new) (O.faults out.new)) result) }
+    ensures closed { result ≡ Status.Done → R.is_open rack.new ≡ false }
+    ensures unfailed_shelf { IsDecided result → S.faults shelf.new ≡ S.faults shelf.old }
+    ensures unfailed { IsDecided result → NoFault
+        (outside (R.held rack.old) (R.faults rack.old) (O.held out.old) (O.faults out.old))
+        (outside (R.held rack.new) (R.faults rack.new) (O.held out.new) (O.faults out.new)) }
+
+    // Where no count of faults rose, the answer is the outcome's, but where memory ran out.
+    ensures complete { ¬ Rose (S.faults shelf.old) (S.faults shelf.new) → ¬ Rose (R.faults rack.old) (R.faults rack.new) → ¬ Rose (O.faults out.old) (O.faults out.new)
+        → IfSome (S.files shelf.old) (λ files. (result ≡ (outcome (map string_bytes words.now) files).ending) ⊎ (result ≡ Status.NoMemory)) }
+
+    // What each answer says of itself, whether or not the files are told.
+    ensures answer { IsAnswerTo (command (map string_bytes words.now))
+        (shelf_state (S.files shelf.new) (S.faults shelf.new) (S.failed shelf.new) (S.taken shelf.new)) result }
+
+    ensures read_fault { IsReadFault result → Rose (S.faults shelf.old) (S.faults shelf.new) }
+    ensures read_fault_line { IsReadFault result → Wrote (refused result).acts
+        (outside (R.held rack.old) (R.faults rack.old) (O.held out.old) (O.faults out.old))
+        (outside (R.held rack.new) (R.faults rack.new) (O.held out.new) (O.faults out.new)) }
+    ensures write_fault { result ≡ Status.WriteFault
+        → Rose (R.faults rack.old) (R.faults rack.new) ⊎ Rose (O.faults out.old) (O.faults out.new) }
+    ensures cut { IsBrokenOff result → IfSome (S.files shelf.old) (λ files. BrokeOff (command (map string_bytes words.now)) files
+        (shelf_state (S.files shelf.old) (S.faults shelf.old) (S.failed shelf.old) (S.taken shelf.old))
+        (shelf_state (S.files shelf.new) (S.faults shelf.new) (S.failed shelf.new) (S.taken shelf.new))
+        (outside (R.held rack.old) (R.faults rack.old) (O.held out.old) (O.faults out.old))
+        (outside (R.held rack.new) (R.faults rack.new) (O.held out.new) (O.faults out.new))) }
+
+    ensures taken { S.taken shelf.new ≤ max (S.taken shelf.old) (byte_limit + 1) }
+    ensures files { S.files shelf.new ≡ S.files shelf.old }
+{
+    run(alloc, words, shelf, rack, out)
+}
