@@ -230,7 +230,7 @@ def Xform \"T\"
 /// A layer without meshes, of so many bytes.
 fn blank_layer(alloc: Global, len: usize) -> Result<Vec<u8>, AllocError> {
     let mut text = Vec::from_slice(alloc, b"#usda 1.0".as_slice())?;
-    while text.len() < len {
+    for _ in 9..len {
         text.push(b' ')?;
     }
     Ok(text)

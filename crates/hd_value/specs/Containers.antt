@@ -1,0 +1,22 @@
+-- What stands in a container.
+use Rattle.std.specs.Prelude.{ℕ, List, [], ◌∷◌, Option, Some, None}
+use Rattle.std.specs.FinMap.{get, entries}
+use Rattle.hd_value.specs.declared.value.Value.{Value}
+use Rattle.hd_value.specs.declared.container.Source.{Source}
+use Rattle.hd_value.specs.declared.container.Source.TheVariants.{Inner, Leaf}
+use Rattle.hd_value.specs.Maps.{Map, below}
+
+-- a container that has entries
+abbrev pub inner_of : List (List (List ℕ) × Value) → Map → Option Source
+inner_of [] m = None
+inner_of (e ∷ es) m = Some (Inner m)
+
+-- the value, or else the container
+abbrev pub leaf_or_inner : Option Value → Map → Option Source
+leaf_or_inner (Some value) inner = Some (Leaf value)
+leaf_or_inner None inner = inner_of (entries inner) inner
+
+-- what stands at a locator: a value, or else the values below it
+abbrev pub found : Map → List (List ℕ) → Option Source
+found m [] = None
+found m (token ∷ at) = leaf_or_inner (get m (token ∷ at)) (below m (token ∷ at))

@@ -1,0 +1,22 @@
+-- A locator is the list of its tokens, from the outermost in.
+use Rattle.std.specs.Prelude.{ℕ, Bool, true, false, ◌&&◌, ◌||◌, List, [], ◌∷◌, nat_eq, Option, Some, None}
+use Rattle.std.specs.Cmp.Lexicographic.{pointwise}
+
+-- whether the two tokens are one text
+abbrev pub is_same : List ℕ → List ℕ → Bool
+is_same = pointwise nat_eq
+
+-- whether the second locator begins with the first
+abbrev pub is_prefix : List (List ℕ) → List (List ℕ) → Bool
+is_prefix [] whole = true
+is_prefix (x ∷ front) [] = false
+is_prefix (x ∷ front) (y ∷ whole) = is_same x y && is_prefix front whole
+
+-- whether one of the two begins with the other
+abbrev pub intersects : List (List ℕ) → List (List ℕ) → Bool
+intersects a b = is_prefix a b || is_prefix b a
+
+-- the text of an element, where nothing is the empty one
+abbrev pub text_of : Option (List ℕ) → List ℕ
+text_of None = []
+text_of (Some text) = text
