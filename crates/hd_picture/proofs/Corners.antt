@@ -94,7 +94,7 @@ depth-flipped x y z tri h =
     let area : neg_ℤ x +ℤ neg_ℤ z +ℤ neg_ℤ y ≡ neg_ℤ (x +ℤ y +ℤ z) = omega (arith, same_in, sum_is_lem, neg_is) in
     rw (sum, area) (floor_both_signs n (x +ℤ y +ℤ z) h)
 
-mirrored_weights : (a b c q : Place) → weights a c b q ≡ corner_weights (neg_ℤ (edge b c q)) (neg_ℤ (edge a b q)) (neg_ℤ (edge c a q))
+pub mirrored_weights : (a b c q : Place) → weights a c b q ≡ corner_weights (neg_ℤ (edge b c q)) (neg_ℤ (edge a b q)) (neg_ℤ (edge c a q))
 mirrored_weights a b c q = rw (edge-swap b c q, edge-swap a b q, edge-swap c a q)
 
 pub mirrored_shows_the_same : (eye : Vec3) (q : Place) (tri : WorldTri) → fragment eye q (mirrored tri) ≡ fragment eye q tri

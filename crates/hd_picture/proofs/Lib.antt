@@ -4,8 +4,13 @@ pub mod Corners
 pub mod Covers
 pub mod Crosses
 pub mod EdgeCover
+pub mod FaceLemmas
 pub mod Floors
 pub mod Integers
 pub mod NearestLemmas
+pub mod QuotientLemmas
+pub mod RowEnds
+pub mod ScanLemmas
 pub mod Shades
 pub mod Steps
+pub mod Ways

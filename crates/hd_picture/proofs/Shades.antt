@@ -1,6 +1,7 @@
 -- The nearest fragment after one more triangle.
-use Rattle.std.proofs.Common.{◌≡◌, ◌∙◌, ap, ◌⊎◌, inl, inr, arith, refl, sym, Bool, true, false, cond, ℤ, ◌≤ℤ◌, ◌<ℤ◌, int_le, None, Some, Option}
-use Rattle.std.proofs.lemmas.Int.{clamps, ints}
+use Rattle.std.proofs.Common.{◌≡◌, ◌∙◌, ap, ◌⊎◌, inl, inr, arith, refl, sym, Bool, true, false, cond, ℤ, ◌^◌, pos, neg_ℤ, ◌≤ℤ◌, ◌<ℤ◌, int_le, int_lt, None, Some, Option}
+use Rattle.std.proofs.lemmas.Int.{by_lt_z, clamps, ints}
+use Rattle.std.specs.Option.{option_map_or}
 use Rattle.hd_picture.specs.declared.draws.WorldTri.{WorldTri}
 use Rattle.hd_picture.specs.declared.edges.Weights.{Weights}
 use Rattle.hd_picture.specs.declared.nearest.Fragment.{Fragment}
@@ -9,9 +10,11 @@ use Rattle.hd_picture.specs.Shading.{fragment_by, hides, highest, nearer}
 use Rattle.hd_num.specs.declared.vector.Vec3.{Vec3}
 use Rattle.hd_picture.specs.declared.projection.Place.{Place}
 use Rattle.hd_picture.specs.Coverage.{covers, weights_seen}
-use Rattle.hd_picture.specs.Pixels.{fragment}
+use Rattle.hd_picture.specs.Pixels.{black, fragment}
+use Rattle.hd_picture.specs.Limits.{IsTriWithin}
+use Rattle.hd_picture.specs.Tiling.{cell_of, over}
 use Rattle.hd_picture.proofs.Covers.{IsRight, covers_cases, depth-turned_over, fragment_is, turned_over}
-use Rattle.hd_picture.proofs.Floors.{IsLeft, depth_most}
+use Rattle.hd_picture.proofs.Floors.{IsLeft, depth_least, depth_most}
 
 -- what hides a depth hides a smaller one
 hides_less : (best : Option Fragment) (d e : ℤ) → e ≤ℤ d → hides best d ≡ true → hides best e ≡ true
@@ -63,6 +66,65 @@ nearer_seen best w tri eye_z l h =
     let e : true ≡ int_le (depth w tri) eye_z = omega (arith, ints) in
     rw (sym e, h)
 
--- a tile's fragments that hide all of a triangle
-pub nearer_below_floor : (best : Option Fragment) (eye : Vec3) (q : Place) (tri : WorldTri) (floor : ℤ) → highest tri ≤ℤ floor → hides best floor ≡ true → nearer best (fragment eye q tri) ≡ best
-nearer_below_floor best eye q tri floor l h = nearer_below_highest best eye q tri (hides_less best floor (highest tri) l h)
+-- what a triangle covers is not farther than its farthest corner can be
+pub covered_least : (w : Weights) (tri : WorldTri) → covers w ≡ true → IsTriWithin (2 ^ 24) tri → neg_ℤ (pos (2 ^ 24)) ≤ℤ depth w tri
+covered_least w tri h near = by (covers_cases w h)
+  where
+    by : IsLeft w ⊎ IsRight w → neg_ℤ (pos (2 ^ 24)) ≤ℤ depth w tri
+    by (inl l) = depth_least w tri l (neg_ℤ (pos (2 ^ 24))) near.a.z.low near.b.z.low near.c.z.low
+    by (inr r) =
+        let l : IsLeft (turned_over w) = record { a = omega (arith, ints); b = omega (arith, ints); c = omega (arith, ints); area = omega (arith, ints) } in
+        let same : depth (turned_over w) tri ≡ depth w tri = depth-turned_over w tri (λ e. omega (arith, ints)) in
+        rw (sym same) (depth_least (turned_over w) tri l (neg_ℤ (pos (2 ^ 24))) near.a.z.low near.b.z.low near.c.z.low)
+
+-- a fragment that hides all of a triangle stays
+pub over_below : (cell : Fragment) (eye : Vec3) (q : Place) (tri : WorldTri) → highest tri ≤ℤ cell.depth → over cell (fragment eye q tri) ≡ cell
+over_below cell eye q tri h = ap (over cell) (fragment_is eye q tri) ∙ by (covers w) refl
+  where
+    w : Weights
+    w = weights_seen eye tri q
+
+    by : (t : Bool) → covers w ≡ t → over cell (cond t (fragment_by w tri eye.z) None) ≡ cell
+    by true e = by_seen (int_le (depth w tri) eye.z)
+      where
+        by_seen : (t : Bool) → over cell (cond t (Some (record { depth = depth w tri; color = tri.color })) None) ≡ cell
+        by_seen true =
+            let m = covered_most w tri e in
+            let less : false ≡ int_lt cell.depth (depth w tri) = omega (arith, ints) in
+            rw (sym less)
+        by_seen false = refl
+    by false e = refl
+
+-- one more fragment in a pixel's place is one more for the nearest
+over_more : (best : Option Fragment) (f : Fragment) → neg_ℤ (pos (2 ^ 24)) ≤ℤ f.depth → over (cell_of best) (Some f) ≡ cell_of (nearer best (Some f))
+over_more None f h =
+    let less : true ≡ int_lt (neg_ℤ (pos (2 ^ 25))) f.depth = omega (arith, ints) in
+    rw (sym less)
+over_more (Some g) f h =
+    by_lt_z g.depth f.depth
+    (λ l.
+    let less : true ≡ int_lt g.depth f.depth = omega (arith, ints) in
+    let open' : false ≡ int_le f.depth g.depth = omega (arith, ints) in
+    rw (sym less, sym open'))
+    (λ l.
+    let less : false ≡ int_lt g.depth f.depth = omega (arith, ints) in
+    let hides' : true ≡ int_le f.depth g.depth = omega (arith, ints) in
+    rw (sym less, sym hides'))
+
+pub over_nearest : (best : Option Fragment) (eye : Vec3) (q : Place) (tri : WorldTri) → IsTriWithin (2 ^ 24) tri → over (cell_of best) (fragment eye q tri) ≡ cell_of (nearer best (fragment eye q tri))
+over_nearest best eye q tri near = rw (fragment_is eye q tri) (by (covers w) refl)
+  where
+    w : Weights
+    w = weights_seen eye tri q
+
+    by : (t : Bool) → covers w ≡ t → over (cell_of best) (cond t (fragment_by w tri eye.z) None) ≡ cell_of (nearer best (cond t (fragment_by w tri eye.z) None))
+    by true e = by_seen (int_le (depth w tri) eye.z)
+      where
+        by_seen : (t : Bool) → over (cell_of best) (cond t (Some (record { depth = depth w tri; color = tri.color })) None) ≡ cell_of (nearer best (cond t (Some (record { depth = depth w tri; color = tri.color })) None))
+        by_seen true = over_more best (record { depth = depth w tri; color = tri.color }) (covered_least w tri e near)
+        by_seen false = refl
+    by false e = refl
+
+pub color_of_cell : (best : Option Fragment) → (cell_of best).color ≡ option_map_or (λ (f : Fragment). f.color) best black
+color_of_cell None = refl
+color_of_cell (Some f) = refl

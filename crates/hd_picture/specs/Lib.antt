@@ -4,6 +4,7 @@ pub mod Laws
 pub mod Limits
 pub mod Pixels
 pub mod Ppm
+pub mod Scanning
 pub mod Shading
 pub mod Tiling
 pub mod View

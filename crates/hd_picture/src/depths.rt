@@ -4,7 +4,8 @@ ghost use Rattle.std.specs.Prelude.{◌≡◌, ◌^◌, pos, ◌*ℤ◌, ◌≤�
 ghost use Rattle.hd_picture.specs.Coverage.{total};
 ghost use Rattle.hd_picture.specs.Depth.{depth, floor_div};
 ghost use Rattle.hd_picture.specs.Limits.{IsTriWithin, IsWithin};
-ghost use Rattle.hd_picture.specs.Shading.{IsFront, highest};
+ghost use Rattle.hd_picture.specs.Scanning.{IsStepWeights};
+ghost use Rattle.hd_picture.specs.Shading.{IsFront, IsSmall, highest, weighed};
 
 use crate::draws::WorldTri;
 use crate::edges::Weights;
@@ -35,6 +36,26 @@ pub fn highest_of(tri: &WorldTri) -> i64
     ensures { result ≡ highest tri.now }
 {
     tri.a.z.max(tri.b.z.max(tri.c.z))
+}
+
+/// The corners' depths, each times a weight of any place of a tile.
+pub fn wide_sum(w: Weights, tri: &WorldTri) -> i128
+    requires weights { IsSmall w }
+    requires corners { IsTriWithin (2 ^ 24) tri.now }
+    ensures value { result ≡ weighed w tri.now }
+    ensures small { IsWithin (2 ^ 90) result }
+{
+    wide_product(w.a, tri.a.z) + wide_product(w.b, tri.b.z) + wide_product(w.c, tri.c.z)
+}
+
+/// The corners' depths, each times the change of a weight from a pixel to the next.
+pub fn narrow_sum(w: Weights, tri: &WorldTri) -> i64
+    requires weights { IsStepWeights w }
+    requires corners { IsTriWithin (2 ^ 24) tri.now }
+    ensures value { result ≡ weighed w tri.now }
+    ensures small { IsWithin (2 ^ 54) result }
+{
+    narrow_product(w.a, tri.a.z) + narrow_product(w.b, tri.b.z) + narrow_product(w.c, tri.c.z)
 }
 
 /// The depth by sums in 64 bits.

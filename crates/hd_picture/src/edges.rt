@@ -75,7 +75,7 @@ fn edge_at(a: Place, b: Place, q: Place) -> i64
 }
 
 /// The cross product of an edge and the way from its start to a place.
-fn cross(edge_x: i64, edge_y: i64, way_x: i64, way_y: i64) -> i64
+pub fn cross(edge_x: i64, edge_y: i64, way_x: i64, way_y: i64) -> i64
     requires edge_x { IsWithin (2 ^ 26) edge_x }
     requires edge_y { IsWithin (2 ^ 26) edge_y }
     requires way_x { IsWithin (2 ^ 32) way_x }

@@ -8,10 +8,14 @@ mod depths;
 mod drawable;
 mod draws;
 mod edges;
+mod faces;
 mod laws;
 mod nearest;
 mod projection;
+mod quotients;
+mod scans;
 mod tiles;
+mod windows;
 
 pub use drawable::is_drawable;
 pub use draws::{Draws, WorldTri};

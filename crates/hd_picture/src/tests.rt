@@ -1,3 +1,4 @@
+ghost use Rattle.std.specs.Prelude.{◌<◌};
 ghost use Rattle.hd_picture.specs.Limits.{IsDrawable};
 
 use super::*;
@@ -247,6 +248,114 @@ fn draws_a_tile_at_the_border(rt: HostRuntime) -> Result<(), Fail> {
     }
     assert_eq!(rt; letter(block[0]), b'w');
     assert!(rt; block[1..].iter().all(|color| letter(*color) == b'.'));
+    Ok(())
+}
+
+fn corner(x: i64, y: i64, z: i64) -> Vec3 {
+    Vec3 { x, y, z }
+}
+
+fn facet(a: Vec3, b: Vec3, c: Vec3, color: Rgb) -> WorldTri {
+    WorldTri { a, b, c, color }
+}
+
+/// What tile `n` is to show at its pixel `i`, by the pixel itself.
+fn expected(draws: &Draws, n: u32, i: u32) -> Rgb
+    requires drawable { IsDrawable draws.now }
+    requires number { n < 4096 }
+    requires place { i < 256 }
+{
+    let columns = draws.width.div_ceil(16);
+    let x = n % columns * 16 + i % 16;
+    let y = n / columns * 16 + i / 16;
+    if x < draws.width && y < draws.height {
+        pixel(draws, x, y)
+    } else {
+        Rgb { r: 0, g: 0, b: 0 }
+    }
+}
+
+/// Whether the block of tile `n` shows what its pixels do.
+fn is_of_pixels(draws: &Draws, n: u32, block: &[Rgb; 256]) -> bool
+    requires drawable { IsDrawable draws.now }
+    requires number { n < 4096 }
+{
+    for i in 0..256_u32 {
+        if block[i as usize] != expected(draws, n, i) {
+            return false;
+        }
+    }
+    true
+}
+
+/// Whether each tile shows what its pixels do. There are at most 4,096.
+fn has_tiles_of_pixels(draws: &Draws) -> bool
+    requires { IsDrawable draws.now }
+{
+    let mut block = [RED; 256];
+    for n in 0..tile_count(draws.width, draws.height) {
+        tile(draws, n, &mut block);
+        if n >= 4096 || !is_of_pixels(draws, n, &block) {
+            return false;
+        }
+    }
+    true
+}
+
+/// Slanted triangles that cover, cross and miss tiles, and turn to both sides.
+fn slanted() -> [WorldTri; 8] {
+    [
+        facet(
+            corner(-99, -99, 0),
+            corner(200, -99, 1),
+            corner(-99, 200, -7),
+            RED,
+        ),
+        facet(
+            corner(-99, -99, 0),
+            corner(-99, 200, 3),
+            corner(200, -99, -2),
+            GREEN,
+        ),
+        facet(
+            corner(-19, 7, -50),
+            corner(3, -21, 60),
+            corner(20, 19, -5),
+            WHITE,
+        ),
+        facet(
+            corner(-21, -1, 9),
+            corner(22, 0, -9),
+            corner(-21, -2, 9),
+            GREEN,
+        ),
+        facet(corner(1, 1, 4), corner(2, 1, 5), corner(1, 3, -9), WHITE),
+        facet(corner(40, 1, 4), corner(50, 9, 5), corner(41, 30, 2), RED),
+        facet(
+            corner(-9, -16777216, 16777216),
+            corner(16777216, 8, -16777216),
+            corner(-10, 12, -3),
+            WHITE,
+        ),
+        facet(
+            corner(-30, 16, 400000),
+            corner(31, -16, -400001),
+            corner(30, -16, 16777216),
+            RED,
+        ),
+    ]
+}
+
+#[test]
+fn draws_tiles_as_pixels(rt: HostRuntime) -> Result<(), Fail> {
+    let alloc = rt.alloc();
+    let tris = slanted();
+    for eye in [EYE, corner(3, -5, 2), corner(-1, 4, -4)] {
+        let draws = scene(alloc, &tris, eye, 41, 35)?;
+        if is_drawable(&draws) {
+            assert!(rt; has_tiles_of_pixels(&draws));
+        }
+    }
     Ok(())
 }
 

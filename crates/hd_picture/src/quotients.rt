@@ -1,0 +1,70 @@
+//! Quotients with a rest, which follow a fraction from step to step without a division.
+
+ghost use Rattle.std.specs.Prelude.{◌^◌, MatchOption, pos, ◌+ℤ◌, ◌<ℤ◌, ◌≤ℤ◌};
+ghost use Rattle.hd_picture.specs.Depth.{floor_div};
+ghost use Rattle.hd_picture.specs.Limits.{IsWithin};
+ghost use Rattle.hd_picture.specs.Scanning.{IsAdvanced, IsQuotient, IsQuotientStep, IsRest};
+
+/// The greatest distance from 0 of a quotient from which steps are taken.
+const REACH: i128 = 1 << 60;
+
+/// A whole number of areas, and a rest.
+#[derive(Clone, Copy)]
+pub struct Quotient {
+    pub whole: i64,
+    pub rest: i64,
+}
+
+/// A sum divided by an area and rounded down, `None` where that is beyond 2^60.
+pub fn quotient_of(sum: i128, area: i64) -> Option<Quotient>
+    requires sum { IsWithin (2 ^ 90) sum }
+    requires area { pos 0 <ℤ area }
+    ensures { MatchOption result (¬ (IsWithin (2 ^ 60) (floor_div sum area))) (IsQuotient sum area) }
+{
+    let divisor = i128::from(area);
+    let whole = sum.div_euclid(divisor);
+    if whole < -REACH || REACH < whole {
+        return None;
+    }
+    Some(Quotient {
+        whole: whole as i64,
+        rest: sum.rem_euclid(divisor) as i64,
+    })
+}
+
+/// A change divided by an area, with the next whole number above the quotient, so that the rest is
+/// below 0.
+pub fn quotient_step(change: i64, area: i64) -> Quotient
+    requires change { IsWithin (2 ^ 54) change }
+    requires area { pos 0 <ℤ area }
+    ensures { IsQuotientStep change area result }
+{
+    Quotient {
+        whole: change.div_euclid(area) + 1,
+        rest: change.rem_euclid(area) - area,
+    }
+}
+
+/// The quotient after one more step.
+pub fn advanced(at: Quotient, step: Quotient, area: i64) -> Quotient
+    requires area { area ≤ℤ pos (2 ^ 61) }
+    requires at { IsRest area at.rest }
+    requires reach { IsWithin (2 ^ 62) at.whole }
+    requires step { IsWithin (2 ^ 55) step.whole }
+    requires lack { IsRest area (step.rest +ℤ area) }
+    ensures { IsAdvanced area at step result }
+{
+    // The sign tells whether the rest ran over, so that no branch is needed: it could not be foretold.
+    let rest = at.rest + step.rest;
+    if rest < 0 {
+        Quotient {
+            whole: at.whole + step.whole - 1,
+            rest: rest + area,
+        }
+    } else {
+        Quotient {
+            whole: at.whole + step.whole,
+            rest,
+        }
+    }
+}
