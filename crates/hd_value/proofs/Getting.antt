@@ -15,6 +15,7 @@ use Rattle.hd_value.specs.Containers.{found, inner_of, leaf_or_inner}
 use Rattle.hd_value.specs.Levels.{values_at, values_of, source_at, IsFilled, AreEntries, IsInner}
 use Rattle.hd_value.specs.Falls.{locators_total, locators_tie, filled}
 use Rattle.hd_value.proofs.Prefixes.{same_text, and_true}
+use Rattle.hd_value.proofs.Sorting.{none_before}
 
 -- whether two locators are one
 abbrev pub eqk : List (List ℕ) → List (List ℕ) → Bool
@@ -68,7 +69,7 @@ seek-values_of t q (e ∷ es) h =
     ∙ ap (or_else (if is_same t e.token then value_in (Some e.source) q else None)) rest
     ∙ elim (is_same t e.token) as (λ b. is_same t e.token ≡ b → or_else (if b then value_in (Some e.source) q else None) (value_in (source_at t es) q) ≡ value_in (if b then Some e.source else source_at t es) q) [
       | true ↦ λ same.
-          let gone : source_at t es ≡ None = subst (λ (w : List ℕ). source_at w es ≡ None) (sym (same_text t e.token same)) h.1 in
+          let gone : source_at t es ≡ None = subst (λ (w : List ℕ). source_at w es ≡ None) (sym (same_text t e.token same)) (none_before e.token es h.1) in
           ap (λ o. or_else (value_in (Some e.source) q) (value_in o q)) gone ∙ or_nothing (value_in (Some e.source) q)
       | false ↦ λ _. refl
     ] refl

@@ -1,5 +1,5 @@
 -- What the map of two merged levels answers.
-use Rattle.std.proofs.Common.{◌≡◌, ◌≢◌, ℕ, Bool, true, false, not, cond, if◌then◌else◌, filter, map, List, [], ◌∷◌, ◌++◌, ◌&&◌, ◌||◌, Option, Some, None, is_none, zero, suc, ◌+◌, ◌*◌, ◌<◌, ◌≤◌, length, get_or, drop, drop-cons, arith, refl, ap, sym, subst, ◌∙◌}
+use Rattle.std.proofs.Common.{◌≡◌, ◌≢◌, ℕ, Bool, true, false, not, cond, if◌then◌else◌, map, List, [], ◌∷◌, ◌++◌, ◌&&◌, ◌||◌, Option, Some, None, zero, suc, ◌+◌, ◌*◌, ◌<◌, ◌≤◌, length, get_or, drop, drop-cons, arith, refl, ap, sym, subst, ◌∙◌}
 use Rattle.std.proofs.lemmas.List.{drop_all}
 use Rattle.std.specs.declared.cmp.Ordering.TheVariants.{Less, Equal, Greater}
 use Rattle.std.specs.Cmp.Lexicographic.{slice_cmp}
@@ -14,11 +14,12 @@ use Rattle.hd_value.specs.Locators.{is_same, is_prefix, intersects}
 use Rattle.hd_value.specs.LocatorSets.{touches}
 use Rattle.hd_value.specs.Maps.{Map, overlaid_at, IsPrefixFree}
 use Rattle.hd_value.specs.Levels.{values_at, values_of, source_at, IsFilled, AreEntries, IsInner}
-use Rattle.hd_value.specs.Overlays.{merged_source, merged, absent, overlaid_on}
+use Rattle.hd_value.specs.Overlays.{merged_source, merged_at, overlaid_on, IsLaidOver}
 use Rattle.hd_value.specs.Depths.{longest, depth}
 use Rattle.hd_value.specs.Falls.{locators_total, locators_tie, filled, longest-from_entries, longest-append, longest-under}
 use Rattle.hd_value.proofs.Prefixes.{same_text, same_itself, or_false, intersects_turned}
 use Rattle.hd_value.proofs.Getting.{eqk, eqk-cons, eqk_same, seek, seek-append, or_else, map_of, value_in, get-level, get-root, filled_at}
+use Rattle.hd_value.proofs.Sorting.{none_before}
 use Rattle.hd_value.proofs.Setting.{same_turned}
 use Rattle.hd_value.proofs.Inserting.{touches-append}
 
@@ -101,7 +102,7 @@ touches-values_of t q (e ∷ es) h =
     ∙ ap (λ b. (is_same t e.token && touched_in (Some e.source) q) || b) (touches-values_of t q es h.2)
     ∙ elim (is_same t e.token) as (λ b. is_same t e.token ≡ b → ((b && touched_in (Some e.source) q) || touched_in (source_at t es) q) ≡ touched_in (if b then Some e.source else source_at t es) q) [
       | true ↦ λ same.
-          let gone : source_at t es ≡ None = subst (λ (w : List ℕ). source_at w es ≡ None) (sym (same_text t e.token same)) h.1 in
+          let gone : source_at t es ≡ None = subst (λ (w : List ℕ). source_at w es ≡ None) (sym (same_text t e.token same)) (none_before e.token es h.1) in
           ap (λ o. touched_in (Some e.source) q || touched_in o q) gone ∙ or_none (touched_in (Some e.source) q)
       | false ↦ λ _. refl
     ] refl
@@ -193,65 +194,6 @@ prefix_free_overlaid m n first second a b some_a some_b p =
     answer : (q : List (List ℕ)) (near : Bool) → touches (keys m) q ≡ near → get (overlaid_on m n) q ≡ (if near then get m q else get n q)
     answer q near is = get-overlaid_on m n q ∙ ap (λ t. if t then get m q else get n q) is
 
-abbrev pub or_source : Option Source → Option Source → Option Source
-or_source None p = p
-or_source (Some s) p = Some s
-
--- a source that is there, over the one below it
-abbrev pub over_source : Option Source → Option Source → Option Source
-over_source None p = None
-over_source (Some s) p = Some (merged_source s p)
-
-source_at-append : (t : List ℕ) (xs ys : List Entry) → source_at t (xs ++ ys) ≡ or_source (source_at t xs) (source_at t ys)
-source_at-append t [] ys = refl
-source_at-append t (e ∷ xs) ys =
-    elim (is_same t e.token) as (λ b. (if b then Some e.source else source_at t (xs ++ ys)) ≡ or_source (if b then Some e.source else source_at t xs) (source_at t ys)) [ true ↦ refl | false ↦ source_at-append t xs ys ]
-
-abbrev pub over : List Entry → List Entry → List Entry
-over fs es = map (λ e. record { token = e.token; source = merged_source e.source (source_at e.token fs) }) es
-
-source_at-over : (t : List ℕ) (fs es : List Entry) → source_at t (over fs es) ≡ over_source (source_at t es) (source_at t fs)
-source_at-over t fs [] = refl
-source_at-over t fs (e ∷ es) =
-    elim (is_same t e.token) as (λ b. is_same t e.token ≡ b → (if b then Some (merged_source e.source (source_at e.token fs)) else source_at t (over fs es)) ≡ over_source (if b then Some e.source else source_at t es) (source_at t fs)) [
-      | true ↦ λ same. ap (λ w. Some (merged_source e.source (source_at w fs))) (sym (same_text t e.token same))
-      | false ↦ λ _. source_at-over t fs es
-    ] refl
-
-abbrev pub new_in : List Entry → List Entry → List Entry
-new_in es fs = filter (λ f. absent es f.token) fs
-
-source_at-new_in : (t : List ℕ) (es fs : List Entry) → source_at t (new_in es fs) ≡ (if absent es t then source_at t fs else None)
-source_at-new_in t es [] = elim (absent es t) as (λ b. ◌≡◌ {A = Option Source} None (if b then None else None)) [ true ↦ refl | false ↦ refl ]
-source_at-new_in t es (f ∷ fs) =
-    let rest : source_at t (new_in es fs) ≡ (if absent es t then source_at t fs else None) = source_at-new_in t es fs in
-    elim (absent es f.token) as (λ b. absent es f.token ≡ b → source_at t (cond b (f ∷ new_in es fs) (new_in es fs)) ≡ (if absent es t then (if is_same t f.token then Some f.source else source_at t fs) else None)) [
-      | true ↦ λ new. ap (λ o. if is_same t f.token then Some f.source else o) rest
-          ∙ elim (is_same t f.token) as (λ b. is_same t f.token ≡ b → (if b then Some f.source else (if absent es t then source_at t fs else None)) ≡ (if absent es t then (if b then Some f.source else source_at t fs) else None)) [
-            | true ↦ λ same. ap (λ b. if b then Some f.source else None) (sym (ap (absent es) (same_text t f.token same) ∙ new))
-            | false ↦ λ _. refl
-          ] refl
-      | false ↦ λ old. rest
-          ∙ elim (is_same t f.token) as (λ b. is_same t f.token ≡ b → (if absent es t then source_at t fs else None) ≡ (if absent es t then (if b then Some f.source else source_at t fs) else None)) [
-            | true ↦ λ same.
-                let there : absent es t ≡ false = ap (absent es) (same_text t f.token same) ∙ old in
-                ap (λ b. if b then source_at t fs else None) there ∙ ap (λ b. if b then Some f.source else None) (sym there)
-            | false ↦ λ _. refl
-          ] refl
-    ] refl
-
--- what stands at a token of two merged levels
-abbrev pub joined : Option Source → Option Source → Option Source
-joined None p = p
-joined (Some s) p = Some (merged_source s p)
-
-source_at-merged : (t : List ℕ) (es fs : List Entry) → source_at t (merged es fs) ≡ joined (source_at t es) (source_at t fs)
-source_at-merged t es fs =
-    source_at-append t (over fs es) (new_in es fs)
-    ∙ ap (λ o. or_source o (source_at t (new_in es fs))) (source_at-over t fs es)
-    ∙ ap (or_source (over_source (source_at t es) (source_at t fs))) (source_at-new_in t es fs)
-    ∙ elim (source_at t es) as (λ o. or_source (over_source o (source_at t fs)) (if is_none o then source_at t fs else None) ≡ joined o (source_at t fs)) [ None ↦ refl | Some s ↦ refl ]
-
 touches_all : (m : Map) → m ≢ empty → touches (keys m) [] ≡ true
 touches_all m some = first (entries m) (filled m some)
   where
@@ -263,29 +205,27 @@ touches_all m some = first (entries m) (filled m some)
         everything [] = refl
         everything (x ∷ k) = refl
 
-value_joined : (o p : Option Source) → ((s : Source) → o ≡ Some s → IsFilled s) → (q : List (List ℕ)) → value_in (joined o p) q ≡ (if touched_in o q then value_in o q else value_in p q)
-value_joined None p h q = refl
-value_joined (Some (Leaf v)) p h q = refl
-value_joined (Some (Inner m)) (Some (Inner n)) h q = get-overlaid_on m n q
-value_joined (Some (Inner m)) None h q =
+value_merged : (o p : Option Source) → ((s : Source) → o ≡ Some s → IsFilled s) → (q : List (List ℕ)) → value_in (merged_at o p) q ≡ (if touched_in o q then value_in o q else value_in p q)
+value_merged None p h q = refl
+value_merged (Some (Leaf v)) None h q = refl
+value_merged (Some (Leaf v)) (Some r) h q = refl
+value_merged (Some (Inner m)) (Some (Inner n)) h q = get-overlaid_on m n q
+value_merged (Some (Inner m)) None h q =
     elim (touches (keys m) q) as (λ b. touches (keys m) q ≡ b → get m q ≡ (if b then get m q else None)) [ true ↦ λ _. refl | false ↦ λ apart. untouched m q apart ] refl
-value_joined (Some (Inner m)) (Some (Leaf v)) h [] =
+value_merged (Some (Inner m)) (Some (Leaf v)) h [] =
     let inner : IsInner m = h (Inner m) refl in
     ap (λ b. if b then get m [] else Some v) (sym (touches_all m inner.filled))
-value_joined (Some (Inner m)) (Some (Leaf v)) h (u ∷ q) =
+value_merged (Some (Inner m)) (Some (Leaf v)) h (u ∷ q) =
     elim (touches (keys m) (u ∷ q)) as (λ b. touches (keys m) (u ∷ q) ≡ b → get m (u ∷ q) ≡ (if b then get m (u ∷ q) else None)) [ true ↦ λ _. refl | false ↦ λ apart. untouched m (u ∷ q) apart ] refl
 
-merged_filled : (s : Source) (o : Option Source) → IsFilled s → ((r : Source) → o ≡ Some r → IsFilled r) → IsFilled (merged_source s o)
-merged_filled (Leaf v) o h g = tt
-merged_filled (Inner m) None h g = h
-merged_filled (Inner m) (Some (Leaf v)) h g = h
-merged_filled (Inner m) (Some (Inner n)) h g =
-    let below : IsInner n = g (Inner n) refl in
-    record {
-      filled = λ none. true_is_not (sym (touches_all m h.filled) ∙ sym (more [] (touches_all m h.filled)) ∙ ap (λ k. touches (keys k) []) none ∙ touches-empty []);
-      rootless = get-overlaid_on m n [] ∙ ap (λ b. if b then get m [] else get n []) (touches_all m h.filled) ∙ h.rootless;
-      prefix_free = prefix_free_overlaid m n h.prefix_free below.prefix_free;
-    }
+pub merged_filled : (s r : Source) → IsFilled s → IsFilled r → IsFilled (merged_source s r)
+merged_filled (Leaf v) r h g = tt
+merged_filled (Inner m) (Leaf v) h g = h
+merged_filled (Inner m) (Inner n) h g = record {
+  filled = λ none. true_is_not (sym (touches_all m h.filled) ∙ sym (more [] (touches_all m h.filled)) ∙ ap (λ k. touches (keys k) []) none ∙ touches-empty []);
+  rootless = get-overlaid_on m n [] ∙ ap (λ b. if b then get m [] else get n []) (touches_all m h.filled) ∙ h.rootless;
+  prefix_free = prefix_free_overlaid m n h.prefix_free g.prefix_free;
+}
   where
     true_is_not : true ≡ false → ⊥
     true_is_not e = cc
@@ -298,93 +238,50 @@ merged_filled (Inner m) (Some (Inner n)) h g =
         ∙ ap (λ b. b || touches (keys (retain_keys n (λ key. not (touches (keys m) key)))) q) e
         ∙ sym e
 
-over_entries : (es fs : List Entry) → AreEntries es → AreEntries fs → AreEntries (over fs es)
-over_entries [] fs h g = tt
-over_entries (e ∷ es) fs h g =
-    (merged_filled e.source (source_at e.token fs) h.0 (λ r is. filled_at e.token fs r g is), source_at-over e.token fs es ∙ ap (λ o. over_source o (source_at e.token fs)) h.1, over_entries es fs h.2 g)
-
-new_entries : (es fs : List Entry) → AreEntries fs → AreEntries (new_in es fs)
-new_entries es [] g = tt
-new_entries es (f ∷ fs) g =
-    elim (absent es f.token) as (λ b. AreEntries (cond b (f ∷ new_in es fs) (new_in es fs))) [
-      | true ↦ (g.0, source_at-new_in f.token es fs ∙ ap (λ o. if absent es f.token then o else None) g.1 ∙ elim (absent es f.token) as (λ b. ◌≡◌ {A = Option Source} (if b then None else None) None) [ true ↦ refl | false ↦ refl ], new_entries es fs g.2)
-      | false ↦ new_entries es fs g.2
-    ]
-
--- two lists of entries in which no token stands twice
-joined_entries : (xs ys : List Entry) → AreEntries xs → AreEntries ys → ((t : List ℕ) → source_at t ys ≡ (if is_none (source_at t xs) then source_at t ys else None)) → AreEntries (xs ++ ys)
-joined_entries [] ys h g apart = g
-joined_entries (x ∷ xs) ys h g apart =
-    let mine : source_at x.token ys ≡ None = apart x.token ∙ ap (λ b. if is_none (if b then Some x.source else source_at x.token xs) then source_at x.token ys else None) (same_itself x.token) in
-    (h.0, source_at-append x.token xs ys ∙ ap (λ o. or_source o (source_at x.token ys)) h.1 ∙ mine, joined_entries xs ys h.2 g later)
-  where
-    later : (t : List ℕ) → source_at t ys ≡ (if is_none (source_at t xs) then source_at t ys else None)
-    later t =
-        elim (is_same t x.token) as (λ b. source_at t ys ≡ (if is_none (if b then Some x.source else source_at t xs) then source_at t ys else None) → source_at t ys ≡ (if is_none (source_at t xs) then source_at t ys else None)) [
-          | true ↦ λ none. elim (is_none (source_at t xs)) as (λ b. source_at t ys ≡ (if b then source_at t ys else None)) [ true ↦ refl | false ↦ none ]
-          | false ↦ λ e. e
-        ] (apart t)
-
-pub merged_entries : (es fs : List Entry) → AreEntries es → AreEntries fs → AreEntries (merged es fs)
-merged_entries es fs h g = joined_entries (over fs es) (new_in es fs) (over_entries es fs h g) (new_entries es fs g) apart
-  where
-    twice : (o p : Option Source) → (if is_none o then p else None) ≡ (if is_none (over_source o p) then (if is_none o then p else None) else None)
-    twice None p = refl
-    twice (Some s) p = refl
-
-    apart : (t : List ℕ) → source_at t (new_in es fs) ≡ (if is_none (source_at t (over fs es)) then source_at t (new_in es fs) else None)
-    apart t =
-        source_at-new_in t es fs
-        ∙ twice (source_at t es) (source_at t fs)
-        ∙ ap (λ o. if is_none o then (if absent es t then source_at t fs else None) else None) (sym (source_at-over t fs es))
-        ∙ ap (λ p. if is_none (source_at t (over fs es)) then p else None) (sym (source_at-new_in t es fs))
-
-pub merged_level : (es fs : List Entry) → AreEntries es → AreEntries fs → map_of (merged es fs) ≡ overlaid_on (map_of es) (map_of fs)
-merged_level es fs h g = same_map locators_total locators_tie (map_of (merged es fs)) (overlaid_on (map_of es) (map_of fs)) answers
+-- the map of a level over another one
+pub merged_level : (es fs all : List Entry) → AreEntries es → AreEntries fs → IsLaidOver es fs all → map_of all ≡ overlaid_on (map_of es) (map_of fs)
+merged_level es fs all h g laid = same_map locators_total locators_tie (map_of all) (overlaid_on (map_of es) (map_of fs)) answers
   where
     neither : (b : Bool) → ◌≡◌ {A = Option Value} None (if b then None else None)
     neither true = refl
     neither false = refl
 
-    answers : (q : List (List ℕ)) → get (map_of (merged es fs)) q ≡ get (overlaid_on (map_of es) (map_of fs)) q
+    answers : (q : List (List ℕ)) → get (map_of all) q ≡ get (overlaid_on (map_of es) (map_of fs)) q
     answers [] =
-        get-root (merged es fs)
+        get-root all
         ∙ neither (touches (keys (map_of es)) [])
         ∙ ap (λ o. if touches (keys (map_of es)) [] then o else None) (sym (get-root es))
         ∙ ap (λ o. if touches (keys (map_of es)) [] then get (map_of es) [] else o) (sym (get-root fs))
         ∙ sym (get-overlaid_on (map_of es) (map_of fs) [])
     answers (t ∷ q) =
-        get-level t q (merged es fs) (merged_entries es fs h g)
-        ∙ ap (λ o. value_in o q) (source_at-merged t es fs)
-        ∙ value_joined (source_at t es) (source_at t fs) (λ s is. filled_at t es s h is) q
+        get-level t q all laid.entries
+        ∙ ap (λ o. value_in o q) (laid.at_token t)
+        ∙ value_merged (source_at t es) (source_at t fs) (λ s is. filled_at t es s h is) q
         ∙ ap (λ b. if b then value_in (source_at t es) q else value_in (source_at t fs) q) (sym (touches-level t q es h))
         ∙ ap (λ o. if touches (keys (map_of es)) (t ∷ q) then o else value_in (source_at t fs) q) (sym (get-level t q es h))
         ∙ ap (λ o. if touches (keys (map_of es)) (t ∷ q) then get (map_of es) (t ∷ q) else o) (sym (get-level t q fs g))
         ∙ sym (get-overlaid_on (map_of es) (map_of fs) (t ∷ q))
 
--- how deep a source is, where a container counts twice
+-- how deep a source is, where each level counts three times
 abbrev pub source_depth : Source → ℕ
 source_depth (Leaf v) = 0
-source_depth (Inner m) = 2 * depth m + 1
+source_depth (Inner m) = 3 * depth m + 2
 
-source_shallow : (token : List ℕ) (s : Source) → IsFilled s → source_depth s + 1 ≤ 2 * longest (values_at token s)
+source_shallow : (token : List ℕ) (s : Source) → IsFilled s → source_depth s < 3 * longest (values_at token s)
 source_shallow token (Leaf v) h = omega arith
 source_shallow token (Inner m) h = omega (arith, longest-under token (entries m) (filled m h.filled))
 
-item_shallow : (es : List Entry) (i : ℕ) (e : Entry) → AreEntries es → i < length es → get_or es i e ≡ e → source_depth e.source + 1 ≤ 2 * longest (values_of es)
-item_shallow [] i e h l is = absurd (omega arith)
-item_shallow (f ∷ es) zero e h l is =
-    let mine : source_depth e.source + 1 ≤ 2 * longest (values_at f.token f.source) = subst (λ (g : Entry). source_depth g.source + 1 ≤ 2 * longest (values_at f.token f.source)) is (source_shallow f.token f.source h.0) in
-    omega (arith, longest-append (values_at f.token f.source) (values_of es))
-item_shallow (f ∷ es) (suc i) e h l is =
-    let later : source_depth e.source + 1 ≤ 2 * longest (values_of es) = item_shallow es i e h.2 (omega arith) is in
-    omega (arith, longest-append (values_at f.token f.source) (values_of es))
+-- a source of a level is less deep
+pub item_falls : (es : List Entry) (i : ℕ) (d : Entry) → AreEntries es → i < length es → source_depth (get_or es i d).source < 3 * longest (values_of es)
+item_falls [] i d h l = absurd (omega arith)
+item_falls (f ∷ es) zero d h l = omega (arith, source_shallow f.token f.source h.0, longest-append (values_at f.token f.source) (values_of es))
+item_falls (f ∷ es) (suc i) d h l = omega (arith, item_falls es i d h.2 (omega arith), longest-append (values_at f.token f.source) (values_of es))
 
--- a source of a container is less deep
-pub item_falls : (m : Map) (es : List Entry) (i : ℕ) (e : Entry) → m ≡ map_of es → AreEntries es → i < length es → e ≡ get_or es i e → source_depth e.source < 2 * depth m
-item_falls m es i e is h l at =
+-- a level is no deeper than its container
+pub level_shallow : (m : Map) (es : List Entry) → m ≡ map_of es → longest (values_of es) ≤ depth m
+level_shallow m es is =
     let deep : depth m ≡ longest (entries (map_of es)) = ap depth is in
-    omega (arith, item_shallow es i e h l (sym at), longest-from_entries (values_of es))
+    omega (arith, longest-from_entries (values_of es))
 
 -- one more part over the later ones
 pub overlaid_step : {X : Type 0} (f : X → Map) (parts : List X) (i : ℕ) (x : X) (whole next : Map) → i < length parts → x ≡ get_or parts i x

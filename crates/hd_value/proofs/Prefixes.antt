@@ -1,5 +1,6 @@
 -- Prefixes of locators.
-use Rattle.std.proofs.Common.{◌≡◌, ℕ, ◌≤◌, Bool, true, false, List, [], ◌∷◌, length, ◌&&◌, ◌||◌, refl, ap, sym, subst, ◌∙◌, arith}
+use Rattle.std.proofs.Common.{◌≡◌, ℕ, ◌-◌, ◌≤◌, take, drop, length-drop, Bool, true, false, List, [], ◌∷◌, length, ◌&&◌, ◌||◌, refl, ap, sym, subst, ◌∙◌, arith}
+use Rattle.std.proofs.lemmas.List.{take_all}
 use Rattle.std.specs.Cmp.Lexicographic.{bytes_decides}
 use Rattle.std.specs.List.{starts_with}
 use Rattle.hd_value.specs.Locators.{is_same, is_prefix, intersects}
@@ -74,3 +75,7 @@ intersects_turned a b = or_turned (is_prefix a b) (is_prefix b a)
     or_turned true false = refl
     or_turned false true = refl
     or_turned false false = refl
+
+-- a slice from a place to the end
+pub slice_to_end : {X : Type 0} (xs : List X) (i : ℕ) → take (length xs - i) (drop i xs) ≡ drop i xs
+slice_to_end xs i = take_all (length xs - i) (drop i xs) (omega (arith, length-drop i xs))

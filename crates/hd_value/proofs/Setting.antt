@@ -1,6 +1,10 @@
 -- What a value that is put into a level does to its map.
-use Rattle.std.proofs.Common.{◌≡◌, ◌≢◌, ℕ, Bool, true, false, not, cond, if◌then◌else◌, List, [], ◌∷◌, ◌++◌, ◌&&◌, Option, Some, None, refl, ap, sym, subst, ◌∙◌}
+use Rattle.std.proofs.Common.{◌≡◌, ◌≢◌, ℕ, ◌-◌, length, get_or, take, drop, Bool, true, false, not, cond, if◌then◌else◌, List, [], ◌∷◌, ◌++◌, ◌&&◌, ◌⊎◌, inl, inr, Option, Some, None, Result, Ok, Err, OnOk, OnErr, refl, ap, sym, subst, ◌∙◌}
 use Rattle.std.specs.Cmp.Lexicographic.{slice_cmp}
+use Rattle.std.specs.List.{AllZip}
+use Rattle.std.specs.declared.vec.Vec.{Vec}
+use Rattle.std.specs.declared.alloc.Global.{Global}
+use Rattle.std.proofs.lemmas.List.Elements.{same_from_all_zip}
 use Rattle.std.specs.Ordering.{nat_cmp}
 use Rattle.std.specs.FinMap.{get, empty, retain_keys, get-insert, get-retain_keys, get-empty, same_map}
 use Rattle.hd_value.specs.declared.value.Value.{Value}
@@ -9,9 +13,10 @@ use Rattle.hd_value.specs.declared.container.Source.{Source}
 use Rattle.hd_value.specs.declared.container.Source.TheVariants.{Inner, Leaf}
 use Rattle.hd_value.specs.Locators.{is_same, is_prefix}
 use Rattle.hd_value.specs.Maps.{Map, set_at, IsFree, IsPrefixFree}
-use Rattle.hd_value.specs.Levels.{source_at, without, placed, IsFilled, AreEntries, IsInner}
+use Rattle.hd_value.specs.Levels.{source_at, placed, inside, source_with, IsFilled, AreEntries, IsInner}
 use Rattle.hd_value.specs.Falls.{locators_total, locators_tie}
-use Rattle.hd_value.proofs.Prefixes.{same_text, same_itself, and_true}
+use Rattle.hd_value.proofs.Prefixes.{same_text, same_itself, and_true, slice_to_end}
+use Rattle.hd_value.proofs.Sorting.{source_at-placed, placed_entries}
 use Rattle.hd_value.proofs.Getting.{eqk, eqk-cons, eqk_same, map_of, value_in, get-level, get-root, filled_at}
 
 -- what a map answers after a value was put at a locator
@@ -101,33 +106,6 @@ same_turned x y =
       ] refl
     ] refl
 
-source_at-append : (t : List ℕ) (s : Source) (u : List ℕ) (es : List Entry) → source_at u (without t es ++ record { token = t; source = s } ∷ []) ≡ (if is_same u t then Some s else source_at u es)
-source_at-append t s u [] = refl
-source_at-append t s u (e ∷ es) =
-    let rest : source_at u (without t es ++ record { token = t; source = s } ∷ []) ≡ (if is_same u t then Some s else source_at u es) = source_at-append t s u es in
-    elim (is_same t e.token) as (λ b. is_same t e.token ≡ b → source_at u (cond (not b) (e ∷ without t es) (without t es) ++ record { token = t; source = s } ∷ []) ≡ (if is_same u t then Some s else (if is_same u e.token then Some e.source else source_at u es))) [
-      | true ↦ λ same. rest ∙ elim (is_same u t) as (λ b. is_same u t ≡ b → (if b then Some s else source_at u es) ≡ (if b then Some s else (if is_same u e.token then Some e.source else source_at u es))) [
-        | true ↦ λ _. refl
-        | false ↦ λ apart. ap (λ b. if b then Some e.source else source_at u es) (sym (subst (λ (w : List ℕ). is_same u w ≡ false) (same_text t e.token same) apart))
-      ] refl
-      | false ↦ λ apart. ap (λ o. if is_same u e.token then Some e.source else o) rest ∙ elim (is_same u e.token) as (λ b. is_same u e.token ≡ b → (if b then Some e.source else (if is_same u t then Some s else source_at u es)) ≡ (if is_same u t then Some s else (if b then Some e.source else source_at u es))) [
-        | true ↦ λ same. ap (λ b. if b then Some s else Some e.source) (sym (same_turned u t ∙ subst (λ (w : List ℕ). is_same t w ≡ false) (sym (same_text u e.token same)) apart))
-        | false ↦ λ _. refl
-      ] refl
-    ] refl
-
-pub source_at-placed : (t : List ℕ) (s : Source) (u : List ℕ) (es : List Entry) → source_at u (placed t s es) ≡ (if is_same u t then Some s else source_at u es)
-source_at-placed t s u es = source_at-append t s u es
-
-pub placed_entries : (t : List ℕ) (s : Source) (es : List Entry) → AreEntries es → IsFilled s → AreEntries (placed t s es)
-placed_entries t s [] h f = (f, refl, tt)
-placed_entries t s (e ∷ es) h f =
-    let rest : AreEntries (placed t s es) = placed_entries t s es h.2 f in
-    elim (is_same t e.token) as (λ b. is_same t e.token ≡ b → AreEntries (cond (not b) (e ∷ without t es) (without t es) ++ record { token = t; source = s } ∷ [])) [
-      | true ↦ λ _. rest
-      | false ↦ λ apart. (h.0, source_at-append t s e.token es ∙ ap (λ b. if b then Some s else source_at e.token es) (same_turned e.token t ∙ apart) ∙ h.1, rest)
-    ] refl
-
 -- a source answers as the one before it, but for the value that was put into it
 abbrev pub IsSetIn : Option Source → List (List ℕ) → Value → Source → Type 0
 IsSetIn old at v s = (q : List (List ℕ)) → value_in (Some s) q ≡ after_set (value_in old q) at v q
@@ -179,32 +157,55 @@ free_empty at front rest e some = get-empty (slice_cmp (slice_cmp nat_cmp)) fron
 pub prefix_free_empty : (m : Map) → m ≡ empty → IsPrefixFree m
 prefix_free_empty m is a b some_a some_b p = absurd (some_a (ap (λ k. get k a) is ∙ get-empty (slice_cmp (slice_cmp nat_cmp)) a))
 
-pub no_leaf : (m : Map) (es : List Entry) (t u : List ℕ) (at : List (List ℕ)) → m ≡ map_of es → AreEntries es → IsFree m (t ∷ u ∷ at) → ((n : Map) → source_at t es ≡ Some (Inner n) → ⊥) → source_at t es ≡ None
-no_leaf m es t u at is h free other =
-    let here : IsFree (map_of es) (t ∷ u ∷ at) = subst (λ (k : Map). IsFree k (t ∷ u ∷ at)) is free in
-    elim (source_at t es) as (λ o. source_at t es ≡ o → o ≡ None) [
-      | None ↦ λ _. refl
-      | Some s ↦ λ found. absurd (elim s as (λ r. source_at t es ≡ Some r → ⊥) [ Inner n ↦ λ e. other n e | Leaf v ↦ λ e. free_leaf es t v u at h e here ] found)
-    ] refl
+-- what was put at a token is not empty
+pub filled_with : (es : List Entry) (t : List ℕ) (at : List (List ℕ)) (v : Value) → AreEntries es → IsFree (map_of es) (t ∷ at) → IsFilled (source_with (source_at t es) at v)
+filled_with es t [] v h free = tt
+filled_with es t (u ∷ at) v h free = by_source (source_at t es) refl
+  where
+    anew : IsInner (set_at empty (u ∷ at) v)
+    anew = set_at_inner empty u at v (get-empty (slice_cmp (slice_cmp nat_cmp)) []) (prefix_free_empty empty refl) (free_empty (u ∷ at))
 
-pub set_here : (m : Map) (es : List Entry) (t : List ℕ) (v : Value) → m ≡ map_of es → AreEntries es → map_of (placed t (Leaf v) es) ≡ set_at m (t ∷ []) v
-set_here m es t v is h = set_level es t [] v (Leaf v) h tt (set_leaf (source_at t es) v) ∙ ap (λ k. set_at k (t ∷ []) v) (sym is)
+    by_source : (o : Option Source) → source_at t es ≡ o → IsFilled (source_with o (u ∷ at) v)
+    by_source None is = anew
+    by_source (Some (Leaf w)) is = anew
+    by_source (Some (Inner n)) is =
+        let inner : IsInner n = filled_at t es (Inner n) h is in
+        set_at_inner n u at v inner.rootless inner.prefix_free (free_inner es t n (u ∷ at) h is free)
 
-pub set_inside : (m : Map) (es : List Entry) (t u : List ℕ) (at : List (List ℕ)) (v : Value) (n : Map) → m ≡ map_of es → AreEntries es → source_at t es ≡ Some (Inner n) → IsFree n (u ∷ at)
-    → map_of (placed t (Inner (set_at n (u ∷ at) v)) es) ≡ set_at m (t ∷ u ∷ at) v
-set_inside m es t u at v n is h there free =
-    let inner : IsInner n = filled_at t es (Inner n) h there in
-    set_level es t (u ∷ at) v (Inner (set_at n (u ∷ at) v)) h (set_at_inner n u at v inner.rootless inner.prefix_free free) (λ q. set_inner n (u ∷ at) v q ∙ ap (λ o. after_set (value_in o q) (u ∷ at) v q) (sym there))
-    ∙ ap (λ k. set_at k (t ∷ u ∷ at) v) (sym is)
+-- a value that was put into a level
+pub set_in_level : (es : List Entry) (t : List ℕ) (at : List (List ℕ)) (v : Value) → AreEntries es → IsFree (map_of es) (t ∷ at) → map_of (placed t (source_with (source_at t es) at v) es) ≡ set_at (map_of es) (t ∷ at) v
+set_in_level es t [] v h free = set_level es t [] v (Leaf v) h tt (set_leaf (source_at t es) v)
+set_in_level es t (u ∷ at) v h free = set_level es t (u ∷ at) v (source_with (source_at t es) (u ∷ at) v) h (filled_with es t (u ∷ at) v h free) (answers (source_at t es) refl)
+  where
+    answers : (o : Option Source) → source_at t es ≡ o → IsSetIn o (u ∷ at) v (source_with o (u ∷ at) v)
+    answers None is = set_new (u ∷ at) v
+    answers (Some (Inner n)) is = set_inner n (u ∷ at) v
+    answers (Some (Leaf w)) is = absurd (free_leaf es t w u at h is free)
 
-pub set_anew : (m : Map) (es : List Entry) (t u : List ℕ) (at : List (List ℕ)) (v : Value) → m ≡ map_of es → AreEntries es → source_at t es ≡ None
-    → map_of (placed t (Inner (set_at empty (u ∷ at) v)) es) ≡ set_at m (t ∷ u ∷ at) v
-set_anew m es t u at v is h there =
-    set_level es t (u ∷ at) v (Inner (set_at empty (u ∷ at) v)) h (set_at_inner empty u at v (get-empty (slice_cmp (slice_cmp nat_cmp)) []) (prefix_free_empty empty refl) (free_empty (u ∷ at))) (λ q. set_new (u ∷ at) v q ∙ ap (λ o. after_set (value_in o q) (u ∷ at) v q) (sym there))
-    ∙ ap (λ k. set_at k (t ∷ u ∷ at) v) (sym is)
+-- a value alone in a level
+pub alone_entries : (t : List ℕ) (at : List (List ℕ)) (v : Value) → AreEntries (record { token = t; source = source_with None at v } ∷ [])
+alone_entries t at v = (filled_with [] t at v tt (free_empty (t ∷ at)), tt, tt)
 
-pub free_below : (m : Map) (es : List Entry) (t : List ℕ) (at : List (List ℕ)) (n : Map) → m ≡ map_of es → AreEntries es → source_at t es ≡ Some (Inner n) → IsFree m (t ∷ at) → IsFree n at
-free_below m es t at n is h there free = free_inner es t n at h there (subst (λ (k : Map). IsFree k (t ∷ at)) is free)
+pub alone_level : (t : List ℕ) (at : List (List ℕ)) (v : Value) → map_of (record { token = t; source = source_with None at v } ∷ []) ≡ set_at empty (t ∷ at) v
+alone_level t at v = set_in_level [] t at v tt (free_empty (t ∷ at))
 
-pub empty_rootless : (m : Map) → m ≡ empty → get m [] ≡ None
-empty_rootless m e = ap (λ k. get k []) e ∙ get-empty (slice_cmp (slice_cmp nat_cmp)) []
+-- a value is free to be put into what stands at the first token
+pub free_within : (es : List Entry) (t : List ℕ) (at : List (List ℕ)) (o : Option Source) → AreEntries es → source_at t es ≡ o → IsFree (map_of es) (t ∷ at) → IsFree (inside o) at
+free_within es t at None h is free = free_empty at
+free_within es t at (Some (Leaf v)) h is free = free_empty at
+free_within es t at (Some (Inner n)) h is free = free_inner es t n at h is free
+
+-- the entries after a call that put a source, or was refused
+pub put_entries : {E : Type 0} (r : Result (Unit {0}) E) (t : List ℕ) (s : Source) (old new : List Entry) → AreEntries old → IsFilled s → OnOk r (new ≡ placed t s old) → OnErr r (new ≡ old) → AreEntries new
+put_entries (Ok u) t s old new h f put kept = subst AreEntries (sym put) (placed_entries t s old h f)
+put_entries (Err e) t s old new h f put kept = subst AreEntries (sym kept) h
+
+-- entries that are the same ones, or clones of them
+pub cloned_items : {P : Type 0} (v w : Vec Entry Global) → (w ≡ v) ⊎ (AllZip (λ e f. f ≡ e) v.items w.items × P) → w.items ≡ v.items
+cloned_items v w (inl same) = ap (λ x. x.items) same
+cloned_items v w (inr clones) = same_from_all_zip (λ e f. f ≡ e) v.items w.items clones.0 (λ e f is. is)
+
+-- a locator that is not empty, by its first token and what is left
+pub named_by : (at tokens : List (List ℕ)) (first : List ℕ) → tokens ≡ at → at ≢ [] → first ≡ get_or tokens 0 first → first ∷ take (length tokens - 1) (drop 1 tokens) ≡ at
+named_by at [] first same some is = absurd (some (sym same))
+named_by at (t ∷ tokens) first same some is = ap (λ ts. first ∷ ts) (slice_to_end (t ∷ tokens) 1) ∙ ap (λ w. w ∷ tokens) is ∙ same

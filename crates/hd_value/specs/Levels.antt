@@ -1,5 +1,8 @@
--- A container is kept as levels: the tokens of one level, each with a value or a further container.
-use Rattle.std.specs.Prelude.{◌≡◌, ◌≢◌, ℕ, not, if◌then◌else◌, List, [], ◌∷◌, ◌++◌, map, filter, Option, Some, None}
+-- A container is kept as levels: the tokens of one level in byte order, each with a value or a further container.
+use Rattle.std.specs.Prelude.{◌≡◌, ◌≢◌, ℕ, ◌<◌, ◌≤◌, if◌then◌else◌, List, [], ◌∷◌, ◌++◌, length, map, filter, slice_index_or, Option, Some, None}
+use Rattle.std.specs.List.{AllWithin}
+use Rattle.std.specs.Ordering.{is_lt, is_gt}
+use Rattle.std.specs.declared.cmp.Ordering.TheVariants.{Less, Greater}
 use Rattle.std.specs.declared.sync.Arc.{Arc}
 use Rattle.std.specs.declared.vec.Vec.{Vec}
 use Rattle.std.specs.declared.alloc.Global.{Global}
@@ -8,8 +11,8 @@ use Rattle.hd_value.specs.declared.value.Value.{Value}
 use Rattle.hd_value.specs.declared.container.Entry.{Entry}
 use Rattle.hd_value.specs.declared.container.Source.{Source}
 use Rattle.hd_value.specs.declared.container.Source.TheVariants.{Inner, Leaf}
-use Rattle.hd_value.specs.Locators.{is_same}
-use Rattle.hd_value.specs.Maps.{Map, IsPrefixFree}
+use Rattle.hd_value.specs.Locators.{is_same, byte_order}
+use Rattle.hd_value.specs.Maps.{Map, set_at, IsPrefixFree}
 
 -- the values of a source that stands at a token
 abbrev pub values_at : List ℕ → Source → List (List (List ℕ) × Value)
@@ -34,13 +37,31 @@ abbrev pub source_at : List ℕ → List Entry → Option Source
 source_at token [] = None
 source_at token (e ∷ es) = if is_same token e.token then Some e.source else source_at token es
 
--- the entries with another token
-abbrev pub without : List ℕ → List Entry → List Entry
-without token es = filter (λ e. not (is_same token e.token)) es
-
--- the entries with a source in place of what stood at the token
+-- the entries with a source in place of what stood at the token, between the entries before it and those after it
 abbrev pub placed : List ℕ → Source → List Entry → List Entry
-placed token source es = without token es ++ record { token = token; source = source } ∷ []
+placed token source es = filter (λ e. is_lt (byte_order e.token token)) es ++ record { token = token; source = source } ∷ filter (λ e. is_gt (byte_order e.token token)) es
+
+-- the values below a token, of which a leaf there has none
+abbrev pub inside : Option Source → Map
+inside (Some (Inner inner)) = inner
+inside (Some (Leaf value)) = empty
+inside None = empty
+
+-- what stood at a token, after a value was put at what is left of the value's locator
+abbrev pub source_with : Option Source → List (List ℕ) → Value → Source
+source_with old [] value = Leaf value
+source_with old (token ∷ at) value = Inner (set_at (inside old) (token ∷ at) value)
+
+-- the entry with this number has the token
+pub record IsPlace (token : List ℕ) (es : List Entry) (i : ℕ) : Type 0 where
+  pub in_range : i < length es
+  pub has_token : (d : Entry) → (slice_index_or es i d).token ≡ token
+
+-- an entry with the token would get this number: the tokens before are below it, and the others above
+pub record IsGap (token : List ℕ) (es : List Entry) (i : ℕ) : Type 0 where
+  pub in_range : i ≤ length es
+  pub below : AllWithin (λ e. byte_order e.token token ≡ Less) es 0 i
+  pub above : AllWithin (λ e. byte_order e.token token ≡ Greater) es i (length es)
 
 -- a container inside another one has a value, none at the empty locator, and none above another
 pub record IsInner (inner : Map) : Type 0 where
@@ -52,10 +73,15 @@ abbrev pub IsFilled : Source → Type 0
 IsFilled (Leaf value) = Unit {0}
 IsFilled (Inner inner) = IsInner inner
 
--- each token stands once, and no source is empty
+-- the token comes before those of the entries
+abbrev pub IsBefore : List ℕ → List Entry → Type 0
+IsBefore token [] = Unit {0}
+IsBefore token (e ∷ es) = (byte_order token e.token ≡ Less) × IsBefore token es
+
+-- the tokens ascend, and no source is empty
 abbrev pub AreEntries : List Entry → Type 0
 AreEntries [] = Unit {0}
-AreEntries (e ∷ es) = IsFilled e.source × (source_at e.token es ≡ None) × AreEntries es
+AreEntries (e ∷ es) = IsFilled e.source × IsBefore e.token es × AreEntries es
 
 abbrev pub IsLevel : Option (Arc (Vec Entry Global) Global) → Type 0
 IsLevel level = AreEntries (held level)

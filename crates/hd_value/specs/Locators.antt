@@ -1,10 +1,16 @@
 -- A locator is the list of its tokens, from the outermost in.
 use Rattle.std.specs.Prelude.{ℕ, Bool, true, false, ◌&&◌, ◌||◌, List, [], ◌∷◌, nat_eq, Option, Some, None}
-use Rattle.std.specs.Cmp.Lexicographic.{pointwise}
+use Rattle.std.specs.Cmp.Lexicographic.{pointwise, slice_cmp}
+use Rattle.std.specs.declared.cmp.Ordering.{Ordering}
+use Rattle.std.specs.Ordering.{nat_cmp}
 
 -- whether the two tokens are one text
 abbrev pub is_same : List ℕ → List ℕ → Bool
 is_same = pointwise nat_eq
+
+-- the order of two tokens by their bytes
+abbrev pub byte_order : List ℕ → List ℕ → Ordering
+byte_order = slice_cmp nat_cmp
 
 -- whether the second locator begins with the first
 abbrev pub is_prefix : List (List ℕ) → List (List ℕ) → Bool

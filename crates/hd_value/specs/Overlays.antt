@@ -1,28 +1,30 @@
 -- How one level lies over another.
-use Rattle.std.specs.Prelude.{ℕ, Bool, not, List, ◌++◌, map, filter, Option, Some, None, is_none}
+use Rattle.std.specs.Prelude.{◌≡◌, ℕ, not, List, ◌++◌, Option, Some, None}
 use Rattle.std.specs.FinMap.{keys, entries, retain_keys, from_entries}
 use Rattle.hd_value.specs.declared.container.Entry.{Entry}
 use Rattle.hd_value.specs.declared.container.Source.{Source}
 use Rattle.hd_value.specs.declared.container.Source.TheVariants.{Inner, Leaf}
 use Rattle.hd_value.specs.LocatorSets.{touches}
-use Rattle.hd_value.specs.Levels.{source_at}
+use Rattle.hd_value.specs.Levels.{source_at, AreEntries}
 use Rattle.hd_value.specs.Maps.{Map}
 
 -- the values of the first map, and those of the second at locators that intersect none of the first
 abbrev pub overlaid_on : Map → Map → Map
 overlaid_on m n = from_entries (entries m ++ entries (retain_keys n (λ key. not (touches (keys m) key))))
 
--- a source over what stands at the same token
-abbrev pub merged_source : Source → Option Source → Source
-merged_source (Inner m) (Some (Inner n)) = Inner (overlaid_on m n)
-merged_source (Inner m) (Some (Leaf v)) = Inner m
-merged_source (Inner m) None = Inner m
-merged_source (Leaf v) o = Leaf v
+-- a source over another one at the same token
+abbrev pub merged_source : Source → Source → Source
+merged_source (Inner m) (Inner n) = Inner (overlaid_on m n)
+merged_source (Inner m) (Leaf v) = Inner m
+merged_source (Leaf v) s = Leaf v
 
--- whether no entry has the token
-abbrev pub absent : List Entry → List ℕ → Bool
-absent es token = is_none (source_at token es)
+-- what stands at a token of two levels, the first over the second
+abbrev pub merged_at : Option Source → Option Source → Option Source
+merged_at None p = p
+merged_at (Some s) None = Some s
+merged_at (Some s) (Some r) = Some (merged_source s r)
 
--- the entries of the first level, each over what stands at its token, and those of the second at other tokens
-abbrev pub merged : List Entry → List Entry → List Entry
-merged es fs = map (λ e. record { token = e.token; source = merged_source e.source (source_at e.token fs) }) es ++ filter (λ f. absent es f.token) fs
+-- the entries of one level over those of another
+pub record IsLaidOver (over under all : List Entry) : Type 0 where
+  pub entries : AreEntries all
+  pub at_token : (token : List ℕ) → source_at token all ≡ merged_at (source_at token over) (source_at token under)

@@ -1,17 +1,19 @@
 //! Values by locator.
 
-ghost use Rattle.std.specs.Prelude.{◌≡◌, ◌≢◌, ◌↔◌, IsTrue, ℕ, List, [], ◌∷◌, map, IfOk, OnOk, OnErr, MatchOption};
+ghost use Rattle.std.specs.Prelude.{◌≡◌, ◌≢◌, ◌↔◌, IsTrue, ℕ, List, [], ◌∷◌, ◌++◌, map, IfOk, IfErr, OnOk, OnErr};
 ghost use Rattle.std.specs.FinMap.{empty, get, from_entries};
 ghost use Rattle.std.specs.Option.{option_copied};
 ghost use Rattle.hd_value.specs.Containers.{found};
-ghost use Rattle.hd_value.specs.Levels.{values_of, source_at, without, placed, IsFilled, AreEntries};
-ghost use Rattle.hd_value.specs.Overlays.{merged_source, overlaid_on};
+ghost use Rattle.hd_value.specs.Locators.{byte_order};
+ghost use Rattle.hd_value.specs.Levels.{values_of, source_at, placed, inside, source_with, IsPlace, IsGap, AreEntries};
+ghost use Rattle.hd_value.specs.Overlays.{merged_source, overlaid_on, IsLaidOver};
 ghost use Rattle.hd_value.specs.Maps.{Map, set_at, overlaid_at, IsFree, IsPrefixFree};
 
 use crate::element::Element;
 use crate::locator::Locator;
 use crate::value::Value;
 use std::alloc::{AllocError, Global};
+use std::cmp::Ordering;
 use std::marker::Model;
 use std::sync::Arc;
 
@@ -90,9 +92,7 @@ impl Container {
         ensures err { OnErr result (self.new ≡ self.old) }
     {
         let tokens = at.elements();
-        let changed = with_value(self, alloc, &tokens[0], &tokens[1..], value)?;
-        *self = changed;
-        Ok(())
+        put(self, alloc, &tokens[0], &tokens[1..], value)
     }
 
     /// The values of all parts, of which the first is the strongest: a value is kept exactly where no earlier part has a
@@ -167,16 +167,28 @@ impl Source {
     }
 }
 
-/// The source of the first entry with this token.
+/// Where the entry with the token stands, or else where one would be put.
+fn place_of(entries: &[Entry], token: &Element) -> Result<usize, usize>
+    requires { AreEntries entries.now }
+    ensures found { IfOk result (IsPlace token.now entries.now) }
+    ensures missing { IfErr result (IsGap token.now entries.now) }
+{
+    entries.binary_search_by(
+        |entry: &Entry| -> Ordering
+            ensures { result ≡ byte_order entry.now.token token.entry.now }
+        { entry.token.compare(token) },
+    )
+}
+
+/// The source of the entry with this token.
 fn source_in<'a>(entries: &'a [Entry], token: &Element) -> Option<&'a Source>
+    requires { AreEntries entries.now }
     ensures { option_copied result ≡ source_at token.now entries.now }
 {
-    for entry in entries {
-        if *token == entry.token {
-            return Some(&entry.source);
-        }
+    match place_of(entries, token) {
+        Ok(i) => Some(&entries[i].source),
+        Err(_) => None,
     }
-    None
 }
 
 /// What stands in a container behind these tokens.
@@ -209,81 +221,120 @@ fn is_free_behind(container: &Container, tokens: &[Element]) -> bool
     }
 }
 
-/// The container with a value behind these tokens, in place of what stood at or below it.
-fn with_value(
-    container: &Container,
+/// Puts a value behind these tokens, in place of what stood at or below it. A level that no other container holds is
+/// changed where it stands. Refused it changes nothing.
+#[cycle(put)]
+fn put(
+    container: &mut Container,
     alloc: Global,
     first: &Element,
     rest: &[Element],
     value: Value,
-) -> Result<Container, AllocError>
-    requires { IsFree container.now (first.now ∷ rest.now) }
-    ensures { IfOk result (λ changed. changed ≡ set_at container.now (first.now ∷ rest.now) value) }
+) -> Result<(), AllocError>
+    requires { IsFree container.old (first.now ∷ rest.now) }
+    ensures ok { OnOk result (container.new ≡ set_at container.old (first.now ∷ rest.now) value) }
+    ensures err { OnErr result (container.new ≡ container.old) }
 {
-    let entries = container.entries();
+    match &mut container.level {
+        Some(level) => put_in(Arc::make_mut(level)?, alloc, first, rest, value),
+        None => {
+            *container = container_with(alloc, first, rest, value)?;
+            Ok(())
+        }
+    }
+}
+
+/// Puts a value into a level.
+#[cycle(put)]
+fn put_in(
+    entries: &mut Vec<Entry>,
+    alloc: Global,
+    first: &Element,
+    rest: &[Element],
+    value: Value,
+) -> Result<(), AllocError>
+    requires entries { AreEntries entries.old.items }
+    requires free { IsFree (from_entries (values_of entries.old.items)) (first.now ∷ rest.now) }
+    ensures ok { OnOk result (entries.new.items ≡ placed first.now (source_with (source_at first.now entries.old.items) rest.now value) entries.old.items) }
+    ensures err { OnErr result (entries.new.items ≡ entries.old.items) }
+{
+    match place_of(entries, first) {
+        Ok(i) => {
+            let entry = &mut entries[i];
+            put_at(&mut entry.source, alloc, rest, value)
+        }
+        Err(i) => {
+            let added = Entry {
+                token: first.copy()?,
+                source: source_of(alloc, rest, value)?,
+            };
+            entries.insert(i, added)?;
+            Ok(())
+        }
+    }
+}
+
+/// Puts a value into a source, at what is left of its locator.
+#[cycle(put)]
+fn put_at(
+    source: &mut Source,
+    alloc: Global,
+    rest: &[Element],
+    value: Value,
+) -> Result<(), AllocError>
+    requires { IsFree (inside (Some source.old)) rest.now }
+    ensures ok { OnOk result (source.new ≡ source_with (Some source.old) rest.now value) }
+    ensures err { OnErr result (source.new ≡ source.old) }
+{
     match rest.split_first() {
-        None => with_source(alloc, entries, first, Source::Leaf(value)),
-        Some((second, more)) => match inner_in(entries, first) {
-            Some(inner) => {
-                let changed = with_value(inner, alloc, second, more, value)?;
-                with_source(alloc, entries, first, Source::Inner(changed))
-            }
-            None => {
-                let added = with_value(&Container::new(), alloc, second, more, value)?;
-                with_source(alloc, entries, first, Source::Inner(added))
+        None => {
+            *source = Source::Leaf(value);
+            Ok(())
+        }
+        Some((first, more)) => match source {
+            Source::Inner(inner) => put(inner, alloc, first, more, value),
+            Source::Leaf(_) => {
+                *source = Source::Inner(container_with(alloc, first, more, value)?);
+                Ok(())
             }
         },
     }
 }
 
-/// The container that stands at a token.
-fn inner_in<'a>(entries: &'a [Entry], token: &Element) -> Option<&'a Container>
-    ensures { MatchOption result ((inner : Map) → source_at token.now entries.now ≢ Some (Source.Inner inner)) (λ inner. source_at token.now entries.now ≡ Some (Source.Inner inner.now)) }
+/// The source with this value alone, at what is left of its locator.
+#[cycle(alone)]
+fn source_of(alloc: Global, rest: &[Element], value: Value) -> Result<Source, AllocError>
+    ensures { IfOk result (λ source. source ≡ source_with None rest.now value) }
 {
-    match source_in(entries, token) {
-        Some(Source::Inner(inner)) => Some(inner),
-        Some(Source::Leaf(_)) => None,
-        None => None,
+    match rest.split_first() {
+        None => Ok(Source::Leaf(value)),
+        Some((first, more)) => Ok(Source::Inner(container_with(alloc, first, more, value)?)),
     }
 }
 
-/// The container of these entries, with a source in place of what stood at the token.
-#[tactic(auto, using(crate::proofs::Setting::placed_entries))]
-fn with_source(
+/// The container with this value alone.
+#[cycle(alone)]
+fn container_with(
     alloc: Global,
-    entries: &[Entry],
-    token: &Element,
-    source: Source,
+    first: &Element,
+    rest: &[Element],
+    value: Value,
 ) -> Result<Container, AllocError>
-    requires entries { AreEntries entries.now }
-    requires filled { IsFilled source }
-    ensures { IfOk result (λ container. container ≡ from_entries (values_of (placed token.now source entries.now))) }
+    ensures { IfOk result (λ container. container ≡ set_at empty (first.now ∷ rest.now) value) }
 {
-    let mut kept = others(alloc, entries, token)?;
-    kept.push(Entry {
-        token: token.copy()?,
-        source,
-    })?;
-    Container::of_entries(alloc, kept)
+    let only = Entry {
+        token: first.copy()?,
+        source: source_of(alloc, rest, value)?,
+    };
+    let mut entries = Vec::with_capacity(alloc, 1)?;
+    entries.push(only)?;
+    Container::of_entries(alloc, entries)
 }
 
-/// Copies of the entries with another token, and room for one more.
-fn others(alloc: Global, entries: &[Entry], token: &Element) -> Result<Vec<Entry>, AllocError>
-    ensures { IfOk result (λ kept. kept.items ≡ without token.now entries.now) }
-{
-    let mut kept = Vec::with_capacity(alloc, entries.len())?;
-    for entry in entries {
-        if *token != entry.token {
-            kept.push(entry.copy()?)?;
-        }
-    }
-    Ok(kept)
-}
+impl Clone for Entry {
+    ghost is_clone = { λ entry copied. copied ≡ entry };
 
-impl Entry {
-    fn copy(&self) -> Result<Entry, AllocError>
-        ensures { IfOk result (λ copied. copied ≡ self.now) }
-    {
+    fn clone(&self) -> Result<Entry, AllocError> {
         Ok(Entry {
             token: self.token.copy()?,
             source: self.source.copy()?,
@@ -291,37 +342,78 @@ impl Entry {
     }
 }
 
-/// The container over another one: the values of the other that intersect none of this one's come in.
+/// The container over another one: the values of the other that intersect none of this one's come in. A level that
+/// only one of the two has is shared.
 #[cycle(overlay)]
 fn laid_over(strong: &Container, alloc: Global, weak: &Container) -> Result<Container, AllocError>
     ensures { IfOk result (λ whole. whole ≡ overlaid_on strong.now weak.now) }
 {
     let over = strong.entries();
     let under = weak.entries();
-    let mut all = Vec::with_capacity(alloc, over.len())?;
-    for entry in over {
-        all.push(Entry {
-            token: entry.token.copy()?,
-            source: source_over(&entry.source, alloc, source_in(under, &entry.token))?,
-        })?;
+    if over.is_empty() {
+        return weak.copy();
     }
-    for entry in under {
-        if source_in(over, &entry.token).is_none() {
-            all.push(entry.copy()?)?;
-        }
+    if under.is_empty() {
+        return strong.copy();
     }
+    let all = merged(over, alloc, under)?;
     Container::of_entries(alloc, all)
 }
 
-/// A source over what stands at the same token.
+/// The entries of both levels in one pass, the first over the second where a token stands in both.
 #[cycle(overlay)]
-fn source_over(strong: &Source, alloc: Global, weak: Option<&Source>) -> Result<Source, AllocError>
-    ensures { IfOk result (λ source. source ≡ merged_source strong.now (option_copied weak.entry)) }
+fn merged(over: &[Entry], alloc: Global, under: &[Entry]) -> Result<Vec<Entry>, AllocError>
+    requires over { AreEntries over.now }
+    requires under { AreEntries under.now }
+    ensures { IfOk result (λ all. IsLaidOver over.now under.now all.items) }
+{
+    let mut all = Vec::with_capacity(alloc, over.len().max(under.len()))?;
+    let mut i = 0;
+    let mut j = 0;
+    while i < over.len() && j < under.len() {
+        match over[i].token.compare(&under[j].token) {
+            Ordering::Less => {
+                all.push(over[i].clone()?)?;
+                i += 1;
+            }
+            Ordering::Greater => {
+                all.push(under[j].clone()?)?;
+                j += 1;
+            }
+            Ordering::Equal => {
+                all.push(Entry {
+                    token: over[i].token.copy()?,
+                    source: source_over(&over[i].source, alloc, &under[j].source)?,
+                })?;
+                i += 1;
+                j += 1;
+            }
+        }
+    }
+    append_copies(&mut all, &over[i..])?;
+    append_copies(&mut all, &under[j..])?;
+    Ok(all)
+}
+
+/// Adds copies of the entries at the end.
+fn append_copies(all: &mut Vec<Entry>, entries: &[Entry]) -> Result<(), AllocError>
+    ensures { OnOk result (all.new.items ≡ all.old.items ++ entries.now) }
+{
+    for entry in entries {
+        all.push(entry.clone()?)?;
+    }
+    Ok(())
+}
+
+/// A source over another one at the same token.
+#[cycle(overlay)]
+fn source_over(strong: &Source, alloc: Global, weak: &Source) -> Result<Source, AllocError>
+    ensures { IfOk result (λ source. source ≡ merged_source strong.now weak.now) }
 {
     match (strong, weak) {
-        (Source::Inner(inner), Some(Source::Inner(below))) => Ok(Source::Inner(laid_over(
-            inner, alloc, below,
-        )?)),
+        (Source::Inner(inner), Source::Inner(below)) => {
+            Ok(Source::Inner(laid_over(inner, alloc, below)?))
+        }
         _ => strong.copy(),
     }
 }

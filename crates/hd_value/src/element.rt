@@ -3,9 +3,11 @@
 ghost use Rattle.std.specs.Prelude.{◌≡◌, [], nat_eq, IfOk};
 ghost use Rattle.std.specs.Cmp;
 ghost use Rattle.std.specs.Cmp.Lexicographic.{pointwise, nat_list_eq_equiv};
+ghost use Rattle.hd_value.specs.Locators.{byte_order};
 
 use hd_path::Token;
 use std::alloc::{AllocError, Global};
+use std::cmp::Ordering;
 use std::marker::Model;
 
 /// A token of a locator. The empty one takes no memory, which makes it the default.
@@ -59,6 +61,13 @@ impl Element {
             Some(token) => token.text(),
             None => "",
         }
+    }
+
+    /// The order of the texts' bytes.
+    pub fn compare(&self, other: &Element) -> Ordering
+        ensures { result ≡ byte_order self.now other.now }
+    {
+        self.text().cmp(other.text())
     }
 
     pub fn copy(&self) -> Result<Element, AllocError>

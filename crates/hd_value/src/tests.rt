@@ -1,7 +1,9 @@
 //! Worked examples of values, containers and locators.
 
+mod copies;
+mod levels;
+
 use crate::{Container, Group, List, Locator, LocatorSet, Source, Value};
-use hd_path::Token;
 use std::alloc::{AllocError, Global};
 use std::test::Fail;
 
@@ -87,14 +89,6 @@ fn a_place_below_a_value_is_not_free(rt: HostRuntime) -> Result<(), Fail> {
     for (place, want) in [("a", true), ("a/b", true), ("a/c", true), ("a/b/c", false)] {
         assert_eq!(rt; made.is_free(&at(alloc, place)?), want, "at {place}");
     }
-    Ok(())
-}
-
-#[test]
-fn a_copy_has_the_values(rt: HostRuntime) -> Result<(), Fail> {
-    let alloc = rt.alloc();
-    let made = container(alloc, &[("a/c", 2)])?;
-    assert_eq!(rt; number_at(alloc, &made.copy()?, "a/c")?, 2);
     Ok(())
 }
 
@@ -200,14 +194,6 @@ fn a_locator_has_its_tokens(rt: HostRuntime) -> Result<(), Fail> {
 }
 
 #[test]
-fn a_long_locator_is_copied(rt: HostRuntime) -> Result<(), Fail> {
-    let alloc = rt.alloc();
-    let copied = at(alloc, "a/b/c/d/e")?.copy(alloc)?;
-    assert!(rt; is_at(alloc, &copied, "a/b/c/d/e")?);
-    Ok(())
-}
-
-#[test]
 fn sets_of_locators(rt: HostRuntime) -> Result<(), Fail> {
     let alloc = rt.alloc();
     let mut set = shared(LocatorSet::new(alloc));
@@ -221,17 +207,6 @@ fn sets_of_locators(rt: HostRuntime) -> Result<(), Fail> {
     assert_eq!(rt; copied.members().len(), 1);
     assert!(rt; copied.intersects(&at(alloc, "primvars/color")?));
     assert!(rt; !copied.intersects(&at(alloc, "mesh")?));
-    Ok(())
-}
-
-#[test]
-fn values(rt: HostRuntime) -> Result<(), Fail> {
-    let alloc = rt.alloc();
-    let name = Token::new(alloc, "x")?;
-    let value = shared(Value::Token(name.copy()?)).copy()?;
-    assert!(rt; matches!(&value, Value::Token(token) if *token == name));
-    let source = Source::Leaf(Value::Flag(true)).copy()?;
-    assert!(rt; matches!(&source, Source::Leaf(Value::Flag(true))));
     Ok(())
 }
 

@@ -1,39 +1,47 @@
-use Rattle.std.proofs.Common.{◌≡◌, ◌*◌, ◌<◌, ◌++◌, length, take, IfOk, sym, ap, subst, ◌∙◌, arith}
-use Rattle.std.proofs.lemmas.List.{take_all}
-use Rattle.hd_value.specs.Depths.{depth}
-use Rattle.hd_value.specs.Levels.{AreEntries}
+use Rattle.std.proofs.Common.{◌≡◌, ◌++◌, ◌⊎◌, inl, inr, IfOk, append_assoc, length, length-drop, drop, sym, ap, subst, ◌∙◌, arith, rules}
 use Rattle.hd_value.specs.Maps.{Map}
-use Rattle.hd_value.specs.Overlays.{overlaid_on, merged}
-use Rattle.hd_value.proofs.Getting.{map_of}
-use Rattle.hd_value.proofs.Overlaying.{over, new_in, source_depth, item_falls, merged_entries, merged_level}
+use Rattle.hd_value.specs.Overlays.{IsLaidOver}
+use Rattle.hd_value.proofs.Prefixes.{slice_to_end}
+use Rattle.hd_value.proofs.Overlaying.{item_falls, level_shallow}
+use Rattle.hd_value.proofs.Merging.{merge, over_by_nothing, over_nothing, over_level, merge-rest, laid-merge}
+use Rattle.hd_value.proofs.container.+overlay.Goals.{merged-then-loop-i-test+else-j-under, merged-else-loop-i-test}
 use Rattle.hd_value.proofs.container.+overlay.Goals as goal
 
-pub laid_over-source_over-requires : goal.laid_over-source_over-requires
-laid_over-source_over-requires t c =
-    let inside : c.loop-entry.entry-index < length c.entries-over.result.now = omega arith in
-    let deeper : source_depth c.entry-item.result.source < 2 * depth c.args.strong.now =
-    item_falls c.args.strong.now c.entries-over.result.now c.loop-entry.entry-index c.entry-item.result c.entries-over.ensures.map c.entries-over.ensures.entries inside c.entry-item.is
-    in
-    (omega arith, tt)
+pub laid_over-returns-then-is_empty : goal.laid_over-returns-then-is_empty
+laid_over-returns-then-is_empty t c =
+    let none : length c.entries-over.result.now ≡ 0 = search rules in
+    subst (λ (m : Map). IfOk c.copy.result (λ whole. whole ≡ m)) (over_by_nothing c.args.strong.now c.args.weak.now c.entries-over.result.now c.entries-under.result.now c.entries-over.ensures.map c.entries-under.ensures.map c.entries-under.ensures.entries none) c.copy.ensures
 
-pub laid_over-of_entries-requires : goal.laid_over-of_entries-requires
-laid_over-of_entries-requires t c =
-    let all : take c.loop-entry-2.entry-index c.entries-under.result.now ≡ c.entries-under.result.now = take_all c.loop-entry-2.entry-index c.entries-under.result.now (omega arith) in
-    let same : c.loop-entry-2.all.items ≡ merged c.entries-over.result.now c.entries-under.result.now =
-    c.loop-entry-2.invariant ∙ ap (λ fs. over c.entries-under.result.now c.entries-over.result.now ++ new_in c.entries-over.result.now fs) all
-    in
-    subst AreEntries (sym same) (merged_entries c.entries-over.result.now c.entries-under.result.now c.entries-over.ensures.entries c.entries-under.ensures.entries)
+pub laid_over-returns-then-is_empty-2 : goal.laid_over-returns-then-is_empty-2
+laid_over-returns-then-is_empty-2 t c =
+    let none : length c.entries-under.result.now ≡ 0 = search rules in
+    subst (λ (m : Map). IfOk c.copy-then-is_empty-2.result (λ whole. whole ≡ m)) (over_nothing c.args.strong.now c.args.weak.now c.entries-over.result.now c.entries-under.result.now c.entries-over.ensures.map c.entries-under.ensures.map c.entries-over.ensures.entries none) c.copy-then-is_empty-2.ensures
+
+pub laid_over-merged-requires : goal.laid_over-merged-requires
+laid_over-merged-requires t c =
+    (omega (arith, level_shallow c.args.strong.now c.entries-over.result.now c.entries-over.ensures.map), (c.entries-over.ensures.entries, c.entries-under.ensures.entries))
 
 pub laid_over-returns : goal.laid_over-returns
 laid_over-returns t c =
-    let all : take c.loop-entry-2.entry-index c.entries-under.result.now ≡ c.entries-under.result.now = take_all c.loop-entry-2.entry-index c.entries-under.result.now (omega arith) in
-    let same : c.loop-entry-2.all.items ≡ merged c.entries-over.result.now c.entries-under.result.now =
-    c.loop-entry-2.invariant ∙ ap (λ fs. over c.entries-under.result.now c.entries-over.result.now ++ new_in c.entries-over.result.now fs) all
+    subst (λ (m : Map). IfOk c.of_entries.result (λ whole. whole ≡ m)) (over_level c.args.strong.now c.args.weak.now c.entries-over.result.now c.entries-under.result.now c.in_ok-all.all.items c.entries-over.ensures.map c.entries-under.ensures.map c.entries-over.ensures.entries c.entries-under.ensures.entries c.in_ok-all.ensures) c.of_entries.ensures
+
+pub merged-source_over-requires : goal.merged-source_over-requires
+merged-source_over-requires t c =
+    (omega (arith, item_falls c.args.over.now c.loop-i.i c.index-over-i-in-Equal-2.result c.requires.over (omega arith)), tt)
+
+pub merged-returns : goal.merged-returns
+merged-returns t c =
+    let over = c.args.over.now in
+    let under = c.args.under.now in
+    let ended : (length (drop c.loop-i.i over) ≡ 0) ⊎ (length (drop c.loop-i.j under) ≡ 0) =
+    elim c.loop-i-test.branch [ merged-then-loop-i-test+else-j-under w ↦ inr (omega (arith, length-drop c.loop-i.j under)) | merged-else-loop-i-test w ↦ inl (omega (arith, length-drop c.loop-i.i over)) ]
     in
-    let laid : map_of c.loop-entry-2.all.items ≡ overlaid_on c.args.strong.now c.args.weak.now =
-    ap map_of same
-    ∙ merged_level c.entries-over.result.now c.entries-under.result.now c.entries-over.ensures.entries c.entries-under.ensures.entries
-    ∙ ap (λ m. overlaid_on m (map_of c.entries-under.result.now)) (sym c.entries-over.ensures.map)
-    ∙ ap (overlaid_on c.args.strong.now) (sym c.entries-under.ensures.map)
+    let all : c.append_copies-2.new.all.items ≡ merge over under =
+    c.in_ok-append_copies-2.ensures
+    ∙ ap (λ es. c.append_copies.new.all.items ++ es) (slice_to_end under c.loop-i.j)
+    ∙ ap (λ es. es ++ drop c.loop-i.j under) (c.in_ok-append_copies.ensures ∙ ap (λ es. c.loop-i.all.items ++ es) (slice_to_end over c.loop-i.i))
+    ∙ append_assoc c.loop-i.all.items (drop c.loop-i.i over) (drop c.loop-i.j under)
+    ∙ ap (λ es. c.loop-i.all.items ++ es) (sym (merge-rest (drop c.loop-i.i over) (drop c.loop-i.j under) ended))
+    ∙ c.loop-i.invariant.so_far
     in
-    subst (λ (m : Map). IfOk c.of_entries.result (λ whole. whole ≡ m)) laid c.of_entries.ensures
+    subst (IsLaidOver over under) (sym all) (laid-merge over under c.requires.over c.requires.under)

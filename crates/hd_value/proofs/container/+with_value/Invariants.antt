@@ -1,5 +1,0 @@
-use Rattle.std.proofs.Common.{length}
-use Rattle.hd_value.proofs.container.+with_value.Given as goal
-
-abbrev pub decreases-with_value : goal.decreases-with_value
-decreases-with_value l = length l.rest.now
