@@ -1,0 +1,17 @@
+//! What a scene index is, and what notices tell of its scene.
+#![tactic(auto)]
+
+mod laws;
+mod notice;
+mod notices;
+mod prims;
+mod scene_index;
+
+pub use laws::{children_stand_below, telling_composes};
+pub use notice::Notice;
+pub use notices::Notices;
+pub use prims::{Entry, Primitive as Prim};
+pub use scene_index::SceneIndex;
+
+#[cfg(test)]
+mod tests;
