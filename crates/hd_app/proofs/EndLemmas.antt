@@ -4,10 +4,10 @@ use Rattle.hd_io.specs.declared.fault.OutsideFault.{OutsideFault}
 use Rattle.hd_io.specs.declared.fault.OutsideFault.TheVariants.{Failed, NoMemory}
 use Rattle.hd_picture.specs.Pixels.{picture}
 use Rattle.hd_picture.specs.Ppm.{ppm}
-use Rattle.hd_usda.specs.declared.layer.FirstLayer.{FirstLayer}
+use Rattle.hd_usda.specs.declared.spec.LayerSpec.{LayerSpec}
 use Rattle.hd_app.specs.Acts.{file, line, Outside, WroteCut}
 use Rattle.hd_app.specs.Endings.{Ends, WriteCause, status_of_write}
-use Rattle.hd_app.specs.Outcomes.{Outcome, drawn, first_frame, frame_line}
+use Rattle.hd_app.specs.Outcomes.{Outcome, drawn, root_frame, frame_line}
 use Rattle.hd_app.proofs.CutLemmas.{none_made}
 
 -- a write that was broken off ends the run
@@ -17,8 +17,8 @@ broken outcome before now Failed cut cause = inr (inl (record { ending = refl; w
 broken outcome before now NoMemory cut cause = inr (inr (record { ending = refl; written = cut; faults = cause }))
 
 -- the acts of a frame, by its bytes
-pub frame_broken : (name bytes text : List ℕ) (layer : FirstLayer) (before now : Outside) (fault : OutsideFault)
-    → bytes ≡ ppm 64 64 (picture (first_frame layer)) → text ≡ frame_line name
+pub frame_broken : (name bytes text : List ℕ) (layer : LayerSpec) (before now : Outside) (fault : OutsideFault)
+    → bytes ≡ ppm 64 64 (picture (root_frame layer)) → text ≡ frame_line name
     → WroteCut (file name bytes ∷ line text ∷ []) before now → WriteCause before now fault
     → Ends (drawn name layer) before now (status_of_write fault)
 frame_broken name bytes text layer before now fault is_picture is_line cut cause =
@@ -27,5 +27,5 @@ frame_broken name bytes text layer before now fault is_picture is_line cut cause
     broken (drawn name layer) before now fault (subst P is_picture (subst Q is_line cut)) cause
 
 -- memory ran out before anything was written
-pub unwritten : (name : List ℕ) (layer : FirstLayer) (before : Outside) → Ends (drawn name layer) before before (status_of_write NoMemory)
+pub unwritten : (name : List ℕ) (layer : LayerSpec) (before : Outside) → Ends (drawn name layer) before before (status_of_write NoMemory)
 unwritten name layer before = broken (drawn name layer) before before NoMemory (none_made _ _ _ before) (record { rack = refl; sink = refl })

@@ -3,7 +3,6 @@ pub mod CutLemmas
 pub mod EndLemmas
 pub mod Fanning
 pub mod FrameLemmas
-pub mod Naming
 pub mod Nearness
 pub mod Reading
 pub mod WritingLemmas

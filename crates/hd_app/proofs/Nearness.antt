@@ -1,17 +1,16 @@
 -- What is drawn is near enough to be drawn.
 use Rattle.std.proofs.Common.{◌≡◌, ◌^◌, ℤ, Bool, true, false, ◌&&◌, cond, List, [], ◌∷◌, Option, Some, None, refl, subst, arith}
-use Rattle.std.specs.Prelude.{flat_map, filter_map, All}
+use Rattle.std.specs.Prelude.{filter, flat_map, filter_map, All, codes}
 use Rattle.std.specs.List.{cons_option}
 use Rattle.std.proofs.lemmas.Int.{ints}
 use Rattle.std.proofs.lemmas.List.Elements.{All-nil, All-cons, All-append}
 use Rattle.hd_num.specs.declared.vector.Vec3.{Vec3}
 use Rattle.hd_picture.specs.declared.draws.WorldTri.{WorldTri}
 use Rattle.hd_picture.specs.Limits.{IsWithin, IsPointWithin, IsTriWithin}
-use Rattle.hd_usda.specs.declared.layer.FirstMesh.{FirstMesh}
-use Rattle.hd_usda.specs.declared.layer.FirstLayer.{FirstLayer}
-use Rattle.std.specs.FinMap.{values}
+use Rattle.hd_usda.specs.declared.spec.PrimSpec.{PrimSpec}
+use Rattle.hd_usda.specs.declared.spec.LayerSpec.{LayerSpec}
 use Rattle.hd_app.specs.Fans.{takes_all, faces, fan}
-use Rattle.hd_app.specs.FirstDraws.{white, is_near, if_near, named_point, point_at, triangle_of, triangle, face_triangles, mesh_triangles, by_name, first_draws}
+use Rattle.hd_app.specs.RootDraws.{white, is_near, if_near, named_point, point_at, triangle_of, triangle, face_triangles, mesh_triangles, value_named, numbers_in, triples_in, prim_triangles, is_root_mesh, root_draws}
 
 kept_in_front : {Y : Type 0} (P : Y → Type 0) (o : Option Y) (rest : List Y) → ((y : Y) → o ≡ Some y → P y) → All P rest → All P (cons_option o rest)
 kept_in_front P None rest each all = all
@@ -66,12 +65,17 @@ triangle_within points corners tri e =
     corners_within (point_at points corners.0) (point_at points corners.1) (point_at points corners.2) tri
     (point_within points corners.0) (point_within points corners.1) (point_within points corners.2) e
 
-mesh_within_if : (b : Bool) (mesh : FirstMesh) → All (IsTriWithin (2 ^ 24)) (cond b (flat_map (face_triangles mesh.points) (faces mesh.counts mesh.indices)) [])
-mesh_within_if true mesh =
-    all_joined (IsTriWithin (2 ^ 24)) (face_triangles mesh.points) (λ face. all_kept (IsTriWithin (2 ^ 24)) (triangle mesh.points) (triangle_within mesh.points) (fan face)) (faces mesh.counts mesh.indices)
-mesh_within_if false mesh = All-nil (IsTriWithin (2 ^ 24))
+mesh_within_if : (b : Bool) (counts indices : List ℤ) (points : List Vec3) → All (IsTriWithin (2 ^ 24)) (cond b (flat_map (face_triangles points) (faces counts indices)) [])
+mesh_within_if true counts indices points =
+    all_joined (IsTriWithin (2 ^ 24)) (face_triangles points) (λ face. all_kept (IsTriWithin (2 ^ 24)) (triangle points) (triangle_within points) (fan face)) (faces counts indices)
+mesh_within_if false counts indices points = All-nil (IsTriWithin (2 ^ 24))
+
+prim_within : (prim : PrimSpec) → All (IsTriWithin (2 ^ 24)) (prim_triangles prim)
+prim_within prim =
+    let counts = numbers_in (value_named (codes "faceVertexCounts") prim.properties) in
+    let indices = numbers_in (value_named (codes "faceVertexIndices") prim.properties) in
+    mesh_within_if (takes_all counts indices) counts indices (triples_in (value_named (codes "points") prim.properties))
 
 -- each triangle that a layer draws
-pub draws_within : (layer : FirstLayer) → All (IsTriWithin (2 ^ 24)) (first_draws layer)
-draws_within layer =
-    all_joined (IsTriWithin (2 ^ 24)) mesh_triangles (λ mesh. mesh_within_if (takes_all mesh.counts mesh.indices) mesh) (values (by_name layer.meshes))
+pub draws_within : (layer : LayerSpec) → All (IsTriWithin (2 ^ 24)) (root_draws layer)
+draws_within layer = all_joined (IsTriWithin (2 ^ 24)) prim_triangles prim_within (filter is_root_mesh layer.prims)

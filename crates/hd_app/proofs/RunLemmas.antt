@@ -2,7 +2,7 @@
 use Rattle.std.proofs.Common.{◌≡◌, ◌⊎◌, ℕ, ◌∙◌, List, [], ◌∷◌, Option, Some, None, Ok, Err, refl, sym, ap, subst, inl, inr}
 use Rattle.std.proofs.Math.Seq.{take-nil}
 use Rattle.std.specs.Prelude.{IfSome}
-use Rattle.hd_usda.specs.declared.layer.FirstLayer.{FirstLayer}
+use Rattle.hd_usda.specs.declared.spec.LayerSpec.{LayerSpec}
 use Rattle.hd_io.specs.Causes.{Rose}
 use Rattle.hd_io.specs.Files.{FileList, FileMap}
 use Rattle.hd_app.specs.declared.status.Status.{Status}
@@ -84,13 +84,13 @@ usage_runs shelf before now status ends = inl (record {
   write = ends_in_fault (refused Usage) before now status (λ (no : Usage ≡ WriteFault). cc) ends;
 })
 
-told_drawn : (draw : Draw) (layer : FirstLayer) (told : Option FileMap) → IfSome told (λ files. layer_in files draw.layer ≡ Ok layer)
+told_drawn : (draw : Draw) (layer : LayerSpec) (told : Option FileMap) → IfSome told (λ files. layer_in files draw.layer ≡ Ok layer)
     → IfSome told (λ files. outcome_of files (Some draw) ≡ drawn draw.out layer)
 told_drawn draw layer None read = tt
 told_drawn draw layer (Some files) read = ap (drawn_if_read draw.out) read
 
 -- a layer that was read is drawn
-pub drawn_runs : (draw : Draw) (layer : FirstLayer) (shelf_before shelf_now : ShelfState) (before now : Outside) (status : Status)
+pub drawn_runs : (draw : Draw) (layer : LayerSpec) (shelf_before shelf_now : ShelfState) (before now : Outside) (status : Status)
     → IfSome shelf_before.files (λ files. layer_in files draw.layer ≡ Ok layer) → shelf_now.faults ≡ shelf_before.faults
     → Ends (drawn draw.out layer) before now status → Runs (Some draw) shelf_before shelf_now before now status
 drawn_runs draw layer shelf_before shelf_now before now status read kept ends = inl (record {
@@ -130,9 +130,9 @@ refused_runs draw (Layer name row word) shelf_before shelf_now before now status
 refused_runs draw (Limit place which count) shelf_before shelf_now before now status why ends = inl (record {
   due = refused (Limit place which count);
   ends = ends;
-  told = told_refused draw (Limit place which count) shelf_before.files why.5;
+  told = told_refused draw (Limit place which count) shelf_before.files why.2;
   faults = why.0;
-  answer = answers (Some draw) shelf_now (refused (Limit place which count)) before now status (why.1, why.2, why.3, why.4) ends;
+  answer = answers (Some draw) shelf_now (refused (Limit place which count)) before now status why.1 ends;
   read = no_read_fault (refused (Limit place which count)) before now status (λ no. no) ends;
   write = ends_in_fault (refused (Limit place which count)) before now status (λ (no : Limit place which count ≡ WriteFault). cc) ends;
 })

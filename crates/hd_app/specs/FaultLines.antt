@@ -1,12 +1,12 @@
 -- The lines that tell why a command was refused, and the numbers that the program ends with.
 use Rattle.std.specs.Prelude.{ℕ, List, [], ◌++◌, codes, decimal}
 use Rattle.hd_usda.specs.declared.fault.LayerWhy.{LayerWhy}
-use Rattle.hd_usda.specs.declared.fault.LayerWhy.TheVariants.{Later}
+use Rattle.hd_usda.specs.declared.fault.LayerWhy.TheVariants as why
 use Rattle.hd_usda.specs.Limits.{word_of}
 use Rattle.hd_app.specs.declared.status.Status.{Status}
 use Rattle.hd_app.specs.declared.status.Status.TheVariants.{Done, Usage, Layer, Limit, ReadFault, WriteFault, NoMemory}
 use Rattle.hd_app.specs.declared.status.Place.{Place}
-use Rattle.hd_app.specs.declared.status.Place.TheVariants.{Words, File}
+use Rattle.hd_app.specs.declared.status.Place.TheVariants.{Words, File, Line}
 
 -- what the program ends with
 abbrev pub number_of : Status → ℕ
@@ -18,14 +18,21 @@ number_of (ReadFault name) = 5
 number_of WriteFault = 6
 number_of NoMemory = 7
 
--- the word for what is wrong with a layer
+-- the word for what is wrong with a layer; a limit has a line of its own
 abbrev pub why_word : LayerWhy → List ℕ
-why_word Later = codes "later"
+why_word why.Header = codes "header"
+why_word why.Syntax = codes "syntax"
+why_word why.NotUtf8 = codes "not-utf8"
+why_word why.Twice = codes "twice"
+why_word why.LeftOut = codes "left-out"
+why_word why.Fraction = codes "fraction"
+why_word (why.Limit which) = word_of which
 
 -- where a limit was passed
 abbrev pub place_text : Place → List ℕ
 place_text Words = codes "words"
 place_text (File name) = name
+place_text (Line name line) = name ++ codes " line " ++ decimal line
 
 -- the line that tells a refusal, with its line feed; the other endings have none
 abbrev pub fault_line : Status → List ℕ

@@ -4,9 +4,8 @@ pub mod DrawWords
 pub mod Endings
 pub mod Fans
 pub mod FaultLines
-pub mod FirstDraws
 pub mod Frames
-pub mod NamedMeshes
 pub mod Outcomes
 pub mod Outside
+pub mod RootDraws
 pub mod Runs

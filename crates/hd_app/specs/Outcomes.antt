@@ -4,18 +4,21 @@ use Rattle.hd_num.specs.declared.vector.Vec3.{Vec3}
 use Rattle.hd_picture.specs.declared.draws.Draws.{Draws}
 use Rattle.hd_picture.specs.Pixels.{picture}
 use Rattle.hd_picture.specs.Ppm.{ppm}
-use Rattle.hd_usda.specs.declared.fault.LayerWhy.TheVariants.{Later}
-use Rattle.hd_usda.specs.declared.layer.FirstLayer.{FirstLayer}
+use Rattle.hd_usda.specs.declared.fault.LayerWhy.{LayerWhy}
+use Rattle.hd_usda.specs.declared.fault.LayerWhy.TheVariants as why
 use Rattle.hd_usda.specs.declared.limits.Which.TheVariants.{Bytes}
-use Rattle.hd_usda.specs.FirstLayers.{first_layer}
+use Rattle.hd_usda.specs.declared.spec.LayerSpec.{LayerSpec}
+use Rattle.hd_usda.specs.Cursors.{Fault}
+use Rattle.hd_usda.specs.Layers.{reads}
+use Rattle.hd_usda.specs.Limits.{limit_of}
 use Rattle.hd_io.specs.Files.{FileMap, bytes_of}
 use Rattle.hd_app.specs.declared.status.Status.{Status}
 use Rattle.hd_app.specs.declared.status.Status.TheVariants.{Done, Usage, Layer, Limit, ReadFault}
-use Rattle.hd_app.specs.declared.status.Place.TheVariants.{File}
+use Rattle.hd_app.specs.declared.status.Place.TheVariants.{File, Line}
 use Rattle.hd_app.specs.Acts.{Act, file, line}
 use Rattle.hd_app.specs.Commands.{Draw, command}
 use Rattle.hd_app.specs.FaultLines.{fault_line}
-use Rattle.hd_app.specs.FirstDraws.{first_draws}
+use Rattle.hd_app.specs.RootDraws.{root_draws}
 use Rattle.hd_app.specs.Outside.{byte_limit}
 
 pub record Outcome : Type 0 where
@@ -31,37 +34,42 @@ abbrev pub default_eye : Vec3
 default_eye = record { x = pos 0; y = pos 0; z = pos 16777216 }
 
 -- the frame of a drawn layer: 64 by 64 pixels
-abbrev pub first_frame : FirstLayer → Draws
-first_frame layer = record { tris = first_draws layer; eye = default_eye; width = 64; height = 64 }
+abbrev pub root_frame : LayerSpec → Draws
+root_frame layer = record { tris = root_draws layer; eye = default_eye; width = 64; height = 64 }
 
 abbrev pub frame_line : List ℕ → List ℕ
 frame_line name = codes "frame " ++ name ++ codes " converged 16 of 16\n"
 
 -- the picture of a layer, and the line of its frame
-abbrev pub drawn : List ℕ → FirstLayer → Outcome
+abbrev pub drawn : List ℕ → LayerSpec → Outcome
 drawn out layer = record {
-  acts = file out (ppm 64 64 (picture (first_frame layer))) ∷ line (frame_line out) ∷ [];
+  acts = file out (ppm 64 64 (picture (root_frame layer))) ∷ line (frame_line out) ∷ [];
   ending = Done;
 }
 
--- the layer that a file's bytes spell, or the refusal
-abbrev pub layer_spelled : List ℕ → Option FirstLayer → Result FirstLayer Status
-layer_spelled name None = Err (Layer name 1 Later)
-layer_spelled name (Some layer) = Ok layer
+-- the refusal of a file with this fault in the line of this number: a limit that is passed there, or what else is wrong
+abbrev pub refusal_at : (name : List ℕ) (number : ℕ) → LayerWhy → Status
+refusal_at name number (why.Limit which) = Limit (Line name number) which (limit_of which)
+refusal_at name number cause = Layer name number cause
 
-abbrev pub layer_of_bytes : List ℕ → List ℕ → Result FirstLayer Status
+-- the layer that a file's bytes spell, or the refusal of their first fault
+abbrev pub layer_spelled : List ℕ → Result LayerSpec Fault → Result LayerSpec Status
+layer_spelled name (Ok layer) = Ok layer
+layer_spelled name (Err fault) = Err (refusal_at name fault.line fault.why)
+
+abbrev pub layer_of_bytes : List ℕ → List ℕ → Result LayerSpec Status
 layer_of_bytes name bytes =
-    if nat_lt byte_limit (length bytes) then Err (Limit (File name) Bytes byte_limit) else layer_spelled name (first_layer bytes)
+    if nat_lt byte_limit (length bytes) then Err (Limit (File name) Bytes byte_limit) else layer_spelled name (reads bytes)
 
 -- the layer of this name, or the refusal
-abbrev pub layer_of_file : List ℕ → Option (List ℕ) → Result FirstLayer Status
+abbrev pub layer_of_file : List ℕ → Option (List ℕ) → Result LayerSpec Status
 layer_of_file name None = Err (ReadFault name)
 layer_of_file name (Some bytes) = layer_of_bytes name bytes
 
-abbrev pub layer_in : FileMap → List ℕ → Result FirstLayer Status
+abbrev pub layer_in : FileMap → List ℕ → Result LayerSpec Status
 layer_in files name = layer_of_file name (bytes_of files name)
 
-abbrev pub drawn_if_read : List ℕ → Result FirstLayer Status → Outcome
+abbrev pub drawn_if_read : List ℕ → Result LayerSpec Status → Outcome
 drawn_if_read out (Ok layer) = drawn out layer
 drawn_if_read out (Err status) = refused status
 

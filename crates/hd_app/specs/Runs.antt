@@ -4,18 +4,21 @@ use Rattle.hd_io.specs.Causes.{Rose}
 use Rattle.hd_io.specs.Files.{FileMap}
 use Rattle.hd_app.specs.declared.status.Status.{Status}
 use Rattle.hd_app.specs.declared.status.Status.TheVariants.{Done, Usage, Layer, Limit, ReadFault, WriteFault, NoMemory}
-use Rattle.hd_app.specs.declared.status.Place.TheVariants.{File}
+use Rattle.hd_app.specs.declared.status.Place.{Place}
+use Rattle.hd_app.specs.declared.status.Place.TheVariants.{Words, File, Line}
 use Rattle.hd_app.specs.declared.outside.ReadStop.{ReadStop}
 use Rattle.hd_app.specs.declared.outside.ReadStop.TheVariants.{Failed, TooLong}
 use Rattle.hd_app.specs.declared.outside.ReadStop.TheVariants as stops
 use Rattle.hd_usda.specs.declared.fault.LayerFault.{LayerFault}
 use Rattle.hd_usda.specs.declared.fault.LayerFault.TheVariants.{At}
 use Rattle.hd_usda.specs.declared.fault.LayerFault.TheVariants as faults
+use Rattle.hd_usda.specs.declared.limits.Which.{Which}
 use Rattle.hd_usda.specs.declared.limits.Which.TheVariants.{Bytes}
+use Rattle.hd_usda.specs.Limits.{limit_of}
 use Rattle.hd_app.specs.Acts.{Outside, WroteCut}
 use Rattle.hd_app.specs.Commands.{Draw}
 use Rattle.hd_app.specs.Endings.{Ends, IsReadFault}
-use Rattle.hd_app.specs.Outcomes.{Outcome, outcome_of, refused, layer_in, layer_of_bytes}
+use Rattle.hd_app.specs.Outcomes.{Outcome, outcome_of, refused, refusal_at, layer_in, layer_of_bytes}
 use Rattle.hd_app.specs.Outside.{byte_limit}
 
 -- what a shelf says of itself: its files where it tells them, its count of faults, the name that failed last, and the bytes taken
@@ -38,12 +41,18 @@ pub record ReadsWithin (before now : ShelfState) : Type 0 where
   pub files : now.files ≡ before.files
   pub taken : now.taken ≤ max before.taken (byte_limit + 1)
 
+-- a limit that the file of this name passes: that of its bytes, of which one more was taken, or one in a line of its text
+abbrev pub PassesLimit : List ℕ → ShelfState → Place → Which → ℕ → Type 0
+PassesLimit name shelf (File file) which count = (file ≡ name) × (which ≡ Bytes) × (count ≡ byte_limit) × (shelf.taken ≡ byte_limit + 1)
+PassesLimit name shelf (Line file line) which count = (file ≡ name) × (count ≡ limit_of which)
+PassesLimit name shelf Words which count = ⊥
+
 -- why the layer of this name was refused
 abbrev pub RefusesLayer : List ℕ → (before now : ShelfState) → Status → Type 0
 RefusesLayer name before now (ReadFault file) = (file ≡ name) × FailedAt name before now
 RefusesLayer name before now (Layer file line why) = (now.faults ≡ before.faults) × (file ≡ name) × IfSome before.files (λ files. layer_in files name ≡ Err (Layer file line why))
 RefusesLayer name before now (Limit place which count) =
-    (now.faults ≡ before.faults) × (place ≡ File name) × (which ≡ Bytes) × (count ≡ byte_limit) × (now.taken ≡ byte_limit + 1) × IfSome before.files (λ files. layer_in files name ≡ Err (Limit place which count))
+    (now.faults ≡ before.faults) × PassesLimit name now place which count × IfSome before.files (λ files. layer_in files name ≡ Err (Limit place which count))
 RefusesLayer name before now NoMemory = now.faults ≡ before.faults
 RefusesLayer name before now Done = ⊥
 RefusesLayer name before now Usage = ⊥
@@ -57,7 +66,7 @@ status_of_stop file stops.NoMemory = NoMemory
 
 -- the refusal of a file that spells no layer
 abbrev pub status_of_fault : List ℕ → LayerFault → Status
-status_of_fault file (At line why) = Layer file line why
+status_of_fault file (At line why) = refusal_at file line why
 status_of_fault file faults.NoMemory = NoMemory
 
 -- the bytes of this file, which are no more than the limit, spell no layer
@@ -65,7 +74,9 @@ abbrev pub RefusesBytes : List ℕ → List ℕ → Status → Type 0
 RefusesBytes file bytes (Layer named line why) = (named ≡ file) × (layer_of_bytes file bytes ≡ Err (Layer named line why))
 RefusesBytes file bytes NoMemory = Unit {0}
 RefusesBytes file bytes (ReadFault named) = ⊥
-RefusesBytes file bytes (Limit place which count) = ⊥
+RefusesBytes file bytes (Limit (Line named line) which count) = (named ≡ file) × (count ≡ limit_of which) × (layer_of_bytes file bytes ≡ Err (Limit (Line named line) which count))
+RefusesBytes file bytes (Limit (File named) which count) = ⊥
+RefusesBytes file bytes (Limit Words which count) = ⊥
 RefusesBytes file bytes Done = ⊥
 RefusesBytes file bytes Usage = ⊥
 RefusesBytes file bytes WriteFault = ⊥
@@ -75,7 +86,7 @@ abbrev pub IsAnswerTo : Option Draw → ShelfState → Status → Type 0
 IsAnswerTo draw shelf Done = IsSome draw
 IsAnswerTo draw shelf Usage = draw ≡ None
 IsAnswerTo draw shelf (Layer file line why) = IsSomeAnd draw (λ d. file ≡ d.layer)
-IsAnswerTo draw shelf (Limit place which count) = IsSomeAnd draw (λ d. place ≡ File d.layer) × (which ≡ Bytes) × (count ≡ byte_limit) × (shelf.taken ≡ byte_limit + 1)
+IsAnswerTo draw shelf (Limit place which count) = IsSomeAnd draw (λ d. PassesLimit d.layer shelf place which count)
 IsAnswerTo draw shelf (ReadFault file) = IsSomeAnd draw (λ d. file ≡ d.layer) × (shelf.failed ≡ Some file)
 IsAnswerTo draw shelf WriteFault = Unit {0}
 IsAnswerTo draw shelf NoMemory = Unit {0}

@@ -7,12 +7,12 @@ ghost use Rattle.hd_picture.specs.Pixels.{picture};
 ghost use Rattle.hd_picture.specs.Ppm.{ppm};
 ghost use Rattle.hd_picture.specs.Tiling.{tile, tile_count};
 ghost use Rattle.hd_app.specs.Frames.{framed};
-ghost use Rattle.hd_app.specs.Outcomes.{first_frame};
+ghost use Rattle.hd_app.specs.Outcomes.{root_frame};
 
-use crate::meshes::first_draws;
+use crate::meshes::root_draws;
 use hd_num::{List, Rgb, Vec3};
 use hd_picture::{Draws, tile, tile_count};
-use hd_usda::FirstLayer;
+use hd_usda::LayerSpec;
 use std::alloc::{AllocError, Global};
 
 /// The width and the height of a drawn layer, in pixels.
@@ -28,12 +28,12 @@ const DEFAULT_EYE: Vec3 = Vec3 {
 const BLACK: Rgb = Rgb { r: 0, g: 0, b: 0 };
 
 /// The frame of a layer.
-fn frame_of(alloc: Global, layer: &FirstLayer) -> Result<Draws, AllocError>
-    ensures frame { IfOk result (λ draws. draws ≡ first_frame layer.now) }
+fn frame_of(alloc: Global, layer: &LayerSpec) -> Result<Draws, AllocError>
+    ensures frame { IfOk result (λ draws. draws ≡ root_frame layer.now) }
     ensures drawable { IfOk result IsDrawable }
 {
     Ok(Draws {
-        tris: List::of(alloc, first_draws(alloc, layer)?)?,
+        tris: List::of(alloc, root_draws(alloc, layer)?)?,
         eye: DEFAULT_EYE,
         width: SIDE,
         height: SIDE,
@@ -132,8 +132,8 @@ fn ppm_of(alloc: Global, width: u32, height: u32, pixels: &[Rgb]) -> Result<Vec<
 }
 
 /// The file of a layer's picture.
-pub fn picture_file(alloc: Global, layer: &FirstLayer) -> Result<Vec<u8>, AllocError>
-    ensures { IfOk result (λ bytes. bytes.items ≡ ppm 64 64 (picture (first_frame layer.now))) }
+pub fn picture_file(alloc: Global, layer: &LayerSpec) -> Result<Vec<u8>, AllocError>
+    ensures { IfOk result (λ bytes. bytes.items ≡ ppm 64 64 (picture (root_frame layer.now))) }
 {
     let draws = frame_of(alloc, layer)?;
     let pixels = pixels_of(alloc, &draws)?;

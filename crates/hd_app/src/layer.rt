@@ -1,7 +1,7 @@
 //! Layers, read by the names of their files.
 
 ghost use Rattle.std.specs.Prelude.{◌≡◌, ◌≤◌, length, IfOk, IfErr, IfSome, OnOk, Ok};
-ghost use Rattle.hd_app.specs.Outcomes.{layer_in, layer_of_bytes};
+ghost use Rattle.hd_app.specs.Outcomes.{layer_in, layer_of_bytes, refusal_at};
 ghost use Rattle.hd_app.specs.Outside.{byte_limit};
 ghost use Rattle.hd_app.specs.Runs.{shelf_state, status_of_stop, status_of_fault, RefusesBytes, RefusesLayer, ReadsWithin};
 
@@ -9,7 +9,7 @@ use crate::outside::{ReadStop, read_file};
 use crate::status::{Place, Status};
 use hd_io::Shelf;
 use hd_num::List;
-use hd_usda::{FirstLayer, LayerFault, Which, read_first};
+use hd_usda::{LayerFault, LayerSpec, LayerWhy, Which};
 use std::alloc::{AllocError, Global};
 
 /// The bytes of a name.
@@ -34,18 +34,32 @@ fn stopped(file: List<u8>, stop: ReadStop) -> Status
     }
 }
 
+/// The refusal of a file with this fault in this line.
+fn refusal_at(file: List<u8>, line: u32, why: LayerWhy) -> Status
+    ensures { result ≡ refusal_at file line why }
+{
+    match why {
+        LayerWhy::Limit(which) => Status::Limit {
+            place: Place::Line(file, line),
+            which,
+            count: which.number(),
+        },
+        _ => Status::Layer { file, line, why },
+    }
+}
+
 /// The refusal of a file that spells no layer.
 fn unread(file: List<u8>, fault: LayerFault) -> Status
     ensures { result ≡ status_of_fault file fault }
 {
     match fault {
-        LayerFault::At { line, why } => Status::Layer { file, line, why },
+        LayerFault::At { line, why } => refusal_at(file, line, why),
         LayerFault::NoMemory => Status::NoMemory,
     }
 }
 
 /// Reads the layer of this name.
-pub fn read_layer<S: Shelf>(alloc: Global, shelf: &mut S, name: &str) -> Result<FirstLayer, Status>
+pub fn read_layer<S: Shelf>(alloc: Global, shelf: &mut S, name: &str) -> Result<LayerSpec, Status>
     ensures layer { IfOk result (λ layer. IfSome (S.files shelf.old) (λ files. layer_in files name.now ≡ Ok layer)) }
     ensures kept { OnOk result (S.faults shelf.new ≡ S.faults shelf.old) }
     ensures refusal { IfErr result (RefusesLayer name.now
@@ -65,12 +79,12 @@ pub fn read_layer<S: Shelf>(alloc: Global, shelf: &mut S, name: &str) -> Result<
 }
 
 /// The layer that a file's bytes spell.
-fn spelled(alloc: Global, file: List<u8>, bytes: &[u8]) -> Result<FirstLayer, Status>
+fn spelled(alloc: Global, file: List<u8>, bytes: &[u8]) -> Result<LayerSpec, Status>
     requires { length bytes.now ≤ byte_limit }
     ensures layer { IfOk result (λ layer. layer_of_bytes file bytes.now ≡ Ok layer) }
     ensures refusal { IfErr result (RefusesBytes file bytes.now) }
 {
-    match read_first(alloc, bytes) {
+    match hd_usda::read_layer(alloc, bytes) {
         Ok(layer) => Ok(layer),
         Err(fault) => Err(unread(file, fault)),
     }

@@ -3,6 +3,8 @@
 
 mod frame;
 mod layer;
+#[cfg(test)]
+mod layer_tests;
 mod meshes;
 mod outside;
 mod status;
@@ -10,6 +12,8 @@ mod status;
 mod tests;
 mod top;
 mod words;
+#[cfg(test)]
+mod worked_tests;
 mod writing;
 
 pub use status::{Place, Status};

@@ -1,16 +1,14 @@
-//! The triangles that a layer of meshes draws.
+//! The triangles that the meshes at the root of a layer draw.
 
 ghost use Rattle.std.specs.Prelude.{◌≡◌, true, ◌++◌, ◌-◌, ◌+◌, ◌≤◌, ◌<◌, ◌≤ℤ◌, pos, nat_abs, length, take, drop, map, flat_map, IfOk, OnOk};
-ghost use Rattle.std.specs.FinMap.{entries};
-ghost use Rattle.hd_app.specs.NamedMeshes.{entry_seen};
+ghost use Rattle.std.specs.Option.{option_copied};
 ghost use Rattle.hd_app.specs.Fans.{takes_all, faces, fan_corners};
-ghost use Rattle.hd_app.specs.FirstDraws.{is_near, if_near, named_point, point_at, triangle, face_triangles, mesh_triangles, by_name, first_draws};
+ghost use Rattle.hd_app.specs.RootDraws.{is_near, if_near, named_point, point_at, triangle, face_triangles, mesh_triangles, value_named, numbers_in, triples_in, prim_triangles, is_root_mesh, root_draws};
 
 use hd_num::{Rgb, Vec3};
 use hd_picture::WorldTri;
-use hd_usda::{FirstLayer, FirstMesh};
+use hd_usda::{LayerSpec, PrimSpec, Property, RawValue};
 use std::alloc::{AllocError, Global};
-use std::collections::BTreeMap;
 
 const WHITE: Rgb = Rgb {
     r: 255,
@@ -103,16 +101,16 @@ fn takes_all(counts: &[i64], indices: &[i64]) -> bool
 }
 
 /// Adds the triangles of a mesh.
-fn push_mesh(mesh: &FirstMesh, tris: &mut Vec<WorldTri>) -> Result<(), AllocError>
-    ensures { OnOk result (tris.new.items ≡ tris.old.items ++ mesh_triangles mesh.now) }
+fn push_mesh(
+    counts: &[i64],
+    indices: &[i64],
+    points: &[Vec3],
+    tris: &mut Vec<WorldTri>,
+) -> Result<(), AllocError>
+    ensures { OnOk result (tris.new.items ≡ tris.old.items ++ mesh_triangles counts.now indices.now points.now) }
 {
-    if takes_all(mesh.counts.items(), mesh.indices.items()) {
-        push_faces(
-            mesh.counts.items(),
-            mesh.indices.items(),
-            mesh.points.items(),
-            tris,
-        )?;
+    if takes_all(counts, indices) {
+        push_faces(counts, indices, points, tris)?;
     }
     Ok(())
 }
@@ -146,25 +144,66 @@ fn push_faces(
     Ok(())
 }
 
-/// The meshes in the byte order of their names.
-fn by_name(alloc: Global, meshes: &[FirstMesh]) -> Result<BTreeMap<&[u8], &FirstMesh>, AllocError>
-    ensures { IfOk result (λ named. map entry_seen named.entries ≡ entries (by_name meshes.now)) }
+/// The value of the property of this name, if it is authored.
+fn value_named<'a>(properties: &'a [Property], name: &[u8]) -> Option<&'a RawValue>
+    ensures { option_copied result ≡ value_named name.now properties.now }
 {
-    let mut named = BTreeMap::new(alloc);
-    for mesh in meshes {
-        named.insert(mesh.name.items(), mesh)?;
+    for property in properties {
+        if property.name.text().as_bytes() == name {
+            return Some(&property.value);
+        }
     }
-    Ok(named)
+    None
 }
 
-/// The white triangles of the meshes, in the byte order of their names.
-pub fn first_draws(alloc: Global, layer: &FirstLayer) -> Result<Vec<WorldTri>, AllocError>
-    ensures { IfOk result (λ tris. tris.items ≡ first_draws layer.now) }
+/// The numbers of a value. None where there is none.
+fn numbers_in(value: Option<&RawValue>) -> &[i64]
+    ensures { result.now ≡ numbers_in (option_copied value.entry) }
+{
+    match value {
+        Some(RawValue::Numbers(numbers)) => numbers.items(),
+        _ => &[],
+    }
+}
+
+/// The triples of a value. None where there is none.
+fn triples_in(value: Option<&RawValue>) -> &[Vec3]
+    ensures { result.now ≡ triples_in (option_copied value.entry) }
+{
+    match value {
+        Some(RawValue::Triples(triples)) => triples.items(),
+        _ => &[],
+    }
+}
+
+/// Adds the triangles of a prim that is a mesh.
+fn push_prim(prim: &PrimSpec, tris: &mut Vec<WorldTri>) -> Result<(), AllocError>
+    ensures { OnOk result (tris.new.items ≡ tris.old.items ++ prim_triangles prim.now) }
+{
+    let properties = prim.properties.items();
+    push_mesh(
+        numbers_in(value_named(properties, b"faceVertexCounts")),
+        numbers_in(value_named(properties, b"faceVertexIndices")),
+        triples_in(value_named(properties, b"points")),
+        tris,
+    )
+}
+
+fn is_root_mesh(prim: &PrimSpec) -> bool
+    ensures { result ≡ is_root_mesh prim.now }
+{
+    prim.path.depth() == 1 && prim.kind.text() == "Mesh"
+}
+
+/// The white triangles of the meshes at the root, in the order of their paths.
+pub fn root_draws(alloc: Global, layer: &LayerSpec) -> Result<Vec<WorldTri>, AllocError>
+    ensures { IfOk result (λ tris. tris.items ≡ root_draws layer.now) }
 {
     let mut tris = Vec::new(alloc);
-    let named = by_name(alloc, layer.meshes.items())?;
-    for mesh in named.values() {
-        push_mesh(mesh, &mut tris)?;
+    for prim in layer.prims.items() {
+        if is_root_mesh(prim) {
+            push_prim(prim, &mut tris)?;
+        }
     }
     Ok(tris)
 }

@@ -15,6 +15,8 @@ pub enum Place {
     Words,
     /// The file of this name.
     File(List<u8>),
+    /// The line of this number, counted from 1, in the file of this name.
+    Line(List<u8>, u32),
 }
 
 /// How a run ends.
@@ -84,12 +86,18 @@ impl Status {
     }
 }
 
-/// The word for what is wrong with a layer.
+/// The word for what is wrong with a layer. A limit has a line of its own.
 fn why_word(why: LayerWhy) -> &'static str
     ensures { result.now ≡ why_word why }
 {
     match why {
-        LayerWhy::Later => "later",
+        LayerWhy::Header => "header",
+        LayerWhy::Syntax => "syntax",
+        LayerWhy::NotUtf8 => "not-utf8",
+        LayerWhy::Twice => "twice",
+        LayerWhy::LeftOut => "left-out",
+        LayerWhy::Fraction => "fraction",
+        LayerWhy::Limit(which) => which.word(),
     }
 }
 
@@ -114,14 +122,20 @@ fn push_layer(
     Ok(())
 }
 
-/// The text of a place where a limit was passed.
-fn place_text(place: &Place) -> &[u8]
-    ensures { result.now ≡ place_text place.now }
+/// Adds the text of a place where a limit was passed.
+fn push_place(alloc: Global, text: &mut Vec<u8>, place: &Place) -> Result<(), AllocError>
+    ensures { OnOk result (text.new.items ≡ text.old.items ++ place_text place.now) }
 {
     match place {
-        Place::Words => b"words",
-        Place::File(name) => name.items(),
+        Place::Words => text.extend_from_slice(b"words")?,
+        Place::File(name) => text.extend_from_slice(name.items())?,
+        Place::Line(name, line) => {
+            text.extend_from_slice(name.items())?;
+            text.extend_from_slice(b" line ")?;
+            text.extend_from_slice(line.to_string(alloc)?.as_bytes())?;
+        }
     }
+    Ok(())
 }
 
 /// Adds the line of a limit that was passed.
@@ -140,7 +154,7 @@ fn push_limit(
     text.extend_from_slice(b" ")?;
     text.extend_from_slice(count.to_string(alloc)?.as_bytes())?;
     text.extend_from_slice(b" at ")?;
-    text.extend_from_slice(place_text(place))?;
+    push_place(alloc, text, place)?;
     text.extend_from_slice(b"\n")?;
     Ok(())
 }

@@ -2,12 +2,12 @@
 
 ghost use Rattle.std.specs.Prelude.{◌≤◌};
 
-use crate::meshes::first_draws;
+use crate::meshes::root_draws;
 use crate::status::Status;
 use crate::top::top_plain;
 use hd_io::{MemoryRack, MemoryShelf, MemorySink};
 use hd_num::List;
-use hd_usda::{LayerWhy, Which, read_first};
+use hd_usda::{LayerWhy, Which, read_layer};
 use std::alloc::{AllocError, Global};
 use std::test::Fail;
 
@@ -38,12 +38,12 @@ const NO_FAULT: Plan = Plan {
 
 /// What a run has written, and what it answered.
 #[derive(Drop)]
-struct Outcome {
-    status: u8,
-    files: usize,
-    name: Vec<u8>,
-    picture: Vec<u8>,
-    line: Vec<u8>,
+pub struct Outcome {
+    pub status: u8,
+    pub files: usize,
+    pub name: Vec<u8>,
+    pub picture: Vec<u8>,
+    pub line: Vec<u8>,
 }
 
 fn failing(alloc: Global, plan: Plan) -> Result<Vec<u64>, AllocError> {
@@ -94,7 +94,7 @@ fn run(
     })
 }
 
-fn draw(alloc: Global, text: &[u8]) -> Result<Outcome, AllocError> {
+pub fn draw(alloc: Global, text: &[u8]) -> Result<Outcome, AllocError> {
     run(
         alloc,
         &["draw", "a", "out.ppm"],
@@ -157,16 +157,19 @@ fn a_triangle_is_white_inside_and_on_its_edges(rt: HostRuntime) -> Result<(), Fa
 }
 
 #[test]
-fn meshes_are_drawn_by_name(rt: HostRuntime) -> Result<(), Fail> {
+fn root_meshes_are_drawn_in_the_order_of_their_paths(rt: HostRuntime) -> Result<(), Fail> {
     let text = b"#usda 1.0
 def Mesh \"b\" { int[] faceVertexCounts = [3] int[] faceVertexIndices = [0, 0, 0] point3f[] points = [(1, 0, 0)] }
 def Mesh \"a1\" { int[] faceVertexCounts = [4, 3] int[] faceVertexIndices = [0, 1, 2, 3, 0, 9, 1] point3f[] points = [(2, 0, 0), (3, 0, 0), (4, 0, 0), (5, 0, 0)] }
 def Mesh \"a\" { int[] faceVertexCounts = [3, -1] int[] faceVertexIndices = [0, 0] point3f[] points = [(6, 0, 0)] }
-def Mesh \"B\" { int[] faceVertexCounts = [2, 3] int[] faceVertexIndices = [0, 0, 0, 0, 0] point3f[] points = [(7, 0, 0)] }
+def Mesh \"B\" { int[] faceVertexCounts = [2, 3] point3f[] points = [(7, 0, 0)] int[] faceVertexIndices = [0, 0, 0, 0, 0]
+    def Mesh \"C\" { int[] faceVertexCounts = [3] int[] faceVertexIndices = [0, 0, 0] point3f[] points = [(8, 0, 0)] } }
+def Xform \"c\" { int[] faceVertexCounts = [3] int[] faceVertexIndices = [0, 0, 0] point3f[] points = [(9, 0, 0)] }
+def Mesh \"d\" { int[] faceVertexCounts = [3] int[] faceVertexIndices = [0, 0, 0] }
 ";
-    match read_first(rt.alloc(), text.as_slice()) {
+    match read_layer(rt.alloc(), text.as_slice()) {
         Ok(layer) => {
-            let tris = first_draws(rt.alloc(), &layer)?;
+            let tris = root_draws(rt.alloc(), &layer)?;
             let corners: Vec<(i64, i64, i64)> = tris
                 .iter()
                 .map(|tri| (tri.a.x, tri.b.x, tri.c.x))
@@ -184,26 +187,12 @@ def Mesh \"B\" { int[] faceVertexCounts = [2, 3] int[] faceVertexIndices = [0, 0
 #[test]
 fn refusals_are_told_by_a_line(rt: HostRuntime) -> Result<(), Fail> {
     let alloc = rt.alloc();
-    let xform = b"#usda 1.0
-def Xform \"T\"
-{
-    int[] faceVertexCounts = [3]
-    int[] faceVertexIndices = [0, 1, 2]
-    point3f[] points = [(-2, -2, 0), (2, -2, 0), (-2, 2, 0)]
-}
-";
-    let table: [(&[&str], &[u8], u8, &[u8]); 9] = [
-        (
-            &["draw", "a", "out.ppm"],
-            xform,
-            2,
-            b"fault layer a line 1 later\n",
-        ),
+    let table: [(&[&str], &[u8], u8, &[u8]); 8] = [
         (
             &["draw", "a", "out.ppm"],
             b"",
             2,
-            b"fault layer a line 1 later\n",
+            b"fault layer a line 1 header\n",
         ),
         (&["draw", "x", "out.ppm"], TRIANGLE, 5, b"fault read x\n"),
         (&["draw", "a"], TRIANGLE, 1, b"fault usage\n"),
@@ -335,7 +324,7 @@ fn statuses_have_their_numbers(rt: HostRuntime) -> Result<(), Fail> {
         Status::Layer {
             file: name.copy()?,
             line: 1,
-            why: LayerWhy::Later
+            why: LayerWhy::Syntax
         }
         .number(),
         2

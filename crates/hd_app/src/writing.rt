@@ -13,7 +13,7 @@ use crate::frame::picture_file;
 use crate::outside::{write_file, write_line};
 use crate::status::Status;
 use hd_io::{OutsideFault, Rack, Sink};
-use hd_usda::FirstLayer;
+use hd_usda::LayerSpec;
 use std::alloc::{AllocError, Global};
 
 /// How a run ends whose write was broken off.
@@ -91,7 +91,7 @@ fn write_frame<R: Rack, O: Sink>(
 /// Draws a layer to a picture of this name.
 pub fn show<R: Rack, O: Sink>(
     alloc: Global,
-    layer: &FirstLayer,
+    layer: &LayerSpec,
     name: &str,
     rack: &mut R,
     out: &mut O,

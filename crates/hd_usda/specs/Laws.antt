@@ -1,11 +1,36 @@
--- What holds of the repetition, by which its bound can be forgotten.
-use Rattle.std.specs.Prelude.{◌≡◌, ℕ, ◌<◌, List, [], length, Some, if◌then◌else◌}
-use Rattle.hd_usda.specs.declared.token.Kind.{Kind}
-use Rattle.hd_usda.specs.Tokens.{Token}
-use Rattle.hd_usda.specs.Reading.{◌>>=◌, Form, is, rest}
-use Rattle.hd_usda.specs.Repeating.{until, until_by, then_more}
+-- What follows from the definition of what bytes spell.
+use Rattle.std.specs.Prelude.{◌≡◌, ◌⊎◌, ℕ, ◌<◌, List, Result, Ok, Err, if◌then◌else◌}
+use Rattle.hd_usda.specs.declared.lexer.Kind.{Kind}
+use Rattle.hd_usda.specs.Lexing.{Tokens}
+use Rattle.hd_usda.specs.Cursors.{◌>>=◌, Fault, Past, Form, is, rest, count}
+use Rattle.hd_usda.specs.Loops.{past, past_by, all, all_by, chain, chain_by}
+use Rattle.hd_usda.specs.Layers.{reads}
+use Rattle.hd_usda.specs.Statements.{reads_property}
 
--- the bound never runs out: items* close is close, or an item and items* close again, and a greater bound changes nothing
-pub record Repeats {A : Type 0} (close : Kind) (item : Form A) : Type 0 where
-  pub again : (ts : List Token) → until close item ts ≡ (if is close ts then Some ([], rest ts) else (item ts >>= λ x. then_more x (until close item)))
-  pub any_bound : (n : ℕ) (ts : List Token) → length ts < n → until_by n close item ts ≡ until close item ts
+-- a value or a fault, and never both
+pub record IsOneForm {A : Type 0} (read : Result A Fault) : Type 0 where
+  pub some : ((x : A) × (read ≡ Ok x)) ⊎ ((fault : Fault) × (read ≡ Err fault))
+  pub never_both : (x : A) (fault : Fault) → read ≡ Ok x → read ≡ Err fault → ⊥
+
+-- bytes spell a layer, or have a first fault
+abbrev pub LayerOrFault : Type 0
+LayerOrFault = (bytes : List ℕ) → IsOneForm (reads bytes)
+
+-- a text spells a property or one that is not used, or has a first fault
+abbrev pub PropertyOrFault : Type 0
+PropertyOrFault = (text : List ℕ) → IsOneForm (reads_property text)
+
+-- form* close is the closing token, or one form and form* close again, and each bound beyond the tokens that are left gives the same
+pub record PastRepeats (close : Kind) (form : Past) : Type 0 where
+  pub again : (ts : Tokens) → past close form ts ≡ (if is close ts then Ok (rest ts) else (form ts >>= past close form))
+  pub any_bound : (n : ℕ) (ts : Tokens) → count ts < n → past_by close form n ts ≡ past close form ts
+
+-- the same with what was read so far
+pub record AllRepeats {S : Type 0} (close : Kind) (form : S → Form S) : Type 0 where
+  pub again : (s : S) (ts : Tokens) → all close form s ts ≡ (if is close ts then Ok (s, rest ts) else (form s ts >>= λ r. all close form r.0 r.1))
+  pub any_bound : (n : ℕ) (s : S) (ts : Tokens) → count ts < n → all_by close form n s ts ≡ all close form s ts
+
+-- (separator form)* is nothing, or a separator, one form and (separator form)* again
+pub record ChainRepeats {S : Type 0} (separator : Kind) (form : S → Form S) : Type 0 where
+  pub again : (s : S) (ts : Tokens) → chain separator form s ts ≡ (if is separator ts then (form s (rest ts) >>= λ r. chain separator form r.0 r.1) else Ok (s, ts))
+  pub any_bound : (n : ℕ) (s : S) (ts : Tokens) → count ts < n → chain_by separator form n s ts ≡ chain separator form s ts

@@ -2,15 +2,27 @@
 
 ghost use Rattle.std.specs.Prelude.{◌≡◌};
 ghost use Rattle.hd_usda.specs.declared.fault.LayerFault.TheVariants.{NoMemory};
-ghost use Rattle.hd_usda.specs.Faults.{outside};
 
+use crate::limits::Which;
 use std::alloc::{AllocError, AllocFailed};
 
 /// What is wrong with a text.
 #[derive(Clone, Copy, Debug, PartialEq, Eq)]
 pub enum LayerWhy {
-    /// The text is outside of the profile that is served.
-    Later,
+    /// The text does not begin with the header.
+    Header,
+    /// No text of the grammar goes on with this token, or no token can be formed.
+    Syntax,
+    /// The bytes are no UTF-8.
+    NotUtf8,
+    /// The name stands there before.
+    Twice,
+    /// The token has a meaning that is left out.
+    LeftOut,
+    /// The number is no whole one.
+    Fraction,
+    /// The quantity passes its limit.
+    Limit(Which),
 }
 
 /// Why a text gives no layer.
@@ -20,18 +32,6 @@ pub enum LayerFault {
     At { line: u32, why: LayerWhy },
     /// Memory ran out.
     NoMemory,
-}
-
-impl LayerFault {
-    /// The fault of a text that is outside of the profile.
-    pub(crate) fn outside() -> LayerFault
-        ensures { result ≡ outside }
-    {
-        LayerFault::At {
-            line: 1,
-            why: LayerWhy::Later,
-        }
-    }
 }
 
 impl From<AllocError> for LayerFault {

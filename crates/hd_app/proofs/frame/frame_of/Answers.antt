@@ -15,5 +15,5 @@ returns-clause-drawable c = record {
     y = record { low = grind (arith, ints); high = grind (arith, ints) };
     z = record { low = grind (arith, ints); high = grind (arith, ints) };
   };
-  corners = subst (λ (tris : List WorldTri). All (IsTriWithin (2 ^ 24)) tris) (sym (c.in_ok-of.ensures ∙ c.in_ok-first_draws.ensures)) (draws_within c.args.layer.now);
+  corners = subst (λ (tris : List WorldTri). All (IsTriWithin (2 ^ 24)) tris) (sym (c.in_ok-of.ensures ∙ c.in_ok-root_draws.ensures)) (draws_within c.args.layer.now);
 }

@@ -1,7 +1,7 @@
 use Rattle.std.proofs.Common.{arith, ◌≡◌, ◌-◌, length}
 use Rattle.std.proofs.lemmas.Grind.{common_steps}
 use Rattle.hd_app.specs.Fans.{fan_corners}
-use Rattle.hd_app.specs.FirstDraws.{triangle}
+use Rattle.hd_app.specs.RootDraws.{triangle}
 use Rattle.hd_app.proofs.Fanning.{drawn_more}
 use Rattle.hd_app.proofs.meshes.push_face.Goals as goal
 use Rattle.hd_app.proofs.meshes.push_face.Goals.{in-Some+in_ok-push, in_default}

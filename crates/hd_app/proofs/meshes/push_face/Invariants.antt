@@ -1,6 +1,6 @@
 use Rattle.std.proofs.Common.{◌≡◌, ◌++◌, ◌-◌, ◌≤◌, length, map}
 use Rattle.std.specs.List.{filter_map, range_with_len}
-use Rattle.hd_app.specs.FirstDraws.{triangle}
+use Rattle.hd_app.specs.RootDraws.{triangle}
 use Rattle.hd_app.specs.Fans.{fan_corners}
 use Rattle.hd_app.proofs.meshes.push_face.Given as goal
 

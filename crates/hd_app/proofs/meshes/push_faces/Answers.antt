@@ -1,7 +1,7 @@
 use Rattle.std.proofs.Common.{arith, ◌≡◌, ◌++◌, ◌∙◌, get_or, pos, ap, sym, append_assoc, to_z, of_z, w64}
 use Rattle.std.proofs.lemmas.Int.{to_z-of_z}
 use Rattle.std.specs.List.{flat_map}
-use Rattle.hd_app.specs.FirstDraws.{face_triangles}
+use Rattle.hd_app.specs.RootDraws.{face_triangles}
 use Rattle.hd_app.proofs.Counting.{takes_next, faces_next}
 use Rattle.hd_app.proofs.meshes.push_faces.Goals as goal
 

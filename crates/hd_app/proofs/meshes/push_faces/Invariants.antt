@@ -1,7 +1,7 @@
 use Rattle.std.proofs.Common.{◌≡◌, ◌++◌, drop, true}
 use Rattle.std.specs.List.{flat_map}
 use Rattle.hd_app.specs.Fans.{takes_all, faces}
-use Rattle.hd_app.specs.FirstDraws.{face_triangles}
+use Rattle.hd_app.specs.RootDraws.{face_triangles}
 use Rattle.hd_app.proofs.meshes.push_faces.Given as goal
 
 -- the triangles so far, and those of the counts and indices that are left, are those of all

@@ -1,0 +1,5 @@
+use Rattle.hd_usda.proofs.WellFormedPrims.{layer_given}
+use Rattle.hd_usda.proofs.read.read_layer.Goals as goal
+
+pub returns-clause-well_formed : goal.returns-clause-well_formed
+returns-clause-well_formed c = layer_given c.layer.result c.new.result _ _ c.new.ensures c.layer.ensures

@@ -1,0 +1,5 @@
+use Rattle.hd_usda.proofs.WellFormedProperties.{statement_reads}
+use Rattle.hd_usda.proofs.statement.read_property.Goals as goal
+
+pub returns-in-Ok-clause-well_formed : goal.returns-in-Ok-clause-well_formed
+returns-in-Ok-clause-well_formed c = statement_reads c.new.result c.in-Ok.property c.in-Ok.ensures

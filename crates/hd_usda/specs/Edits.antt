@@ -1,0 +1,24 @@
+-- Edits that a layer may be handed.
+use Rattle.std.specs.Prelude.{length, Bool, true, ◌&&◌, nat_lt, Option, Some, None}
+use Rattle.hd_usda.specs.declared.edit.Edit.{Edit}
+use Rattle.hd_usda.specs.declared.edit.Edit.TheVariants.{Define, Set, Clear, Remove, Rename}
+use Rattle.hd_usda.specs.declared.spec.Property.{Property}
+use Rattle.hd_usda.specs.Prims.{Path}
+use Rattle.hd_usda.specs.WellFormed.{is_property}
+
+-- not the root
+abbrev pub is_below_root : Path → Bool
+is_below_root path = nat_lt 0 (length path)
+
+-- no property, or a used one whose value has its form
+abbrev pub may_be_set : Option Property → Bool
+may_be_set None = true
+may_be_set (Some property) = is_property property
+
+-- none of its paths is the root, and a property in it is well formed
+abbrev pub is_edit : Edit → Bool
+is_edit (Define kind path) = is_below_root path
+is_edit (Set path property) = is_below_root path && may_be_set property
+is_edit (Clear path name) = is_below_root path
+is_edit (Remove path) = is_below_root path
+is_edit (Rename from to) = is_below_root from && is_below_root to

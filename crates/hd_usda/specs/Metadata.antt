@@ -1,0 +1,50 @@
+-- Metadata, of which nothing is kept.
+use Rattle.std.specs.Prelude.{ℕ, List, [], ◌∷◌, Bool, ◌||◌, ◌&&◌, Ok, Err, if◌then◌else◌, codes}
+use Rattle.std.specs.Str.{bytes_eq}
+use Rattle.std.specs.List.{list_any}
+use Rattle.hd_usda.specs.declared.lexer.Kind.TheVariants.{Word, Number, Text, OpenRound, CloseRound, Equals, Semicolon}
+use Rattle.hd_usda.specs.declared.fault.LayerWhy.TheVariants.{LeftOut}
+use Rattle.hd_usda.specs.Lexing.{Tokens}
+use Rattle.hd_usda.specs.Cursors.{◌>>=◌, Past, is, is_word, rest, text, line_of, fault_in, fault_at, take, past_one}
+use Rattle.hd_usda.specs.Loops.{past}
+use Rattle.hd_usda.specs.Values.{value}
+
+-- the text is one of the words
+abbrev pub is_any : List (List ℕ) → List ℕ → Bool
+is_any words text = list_any (bytes_eq text) words
+
+-- what may stand before a key or a property
+abbrev pub list_ops : List (List ℕ)
+list_ops = codes "add" ∷ codes "append" ∷ codes "prepend" ∷ codes "delete" ∷ codes "reorder" ∷ []
+
+-- the keys whose meaning is left out
+abbrev pub left_out_keys : List (List ℕ)
+left_out_keys = codes "references" ∷ codes "payload" ∷ codes "inherits" ∷ codes "specializes" ∷ codes "variants" ∷ codes "variantSets" ∷ codes "relocates" ∷ codes "subLayers" ∷ []
+
+-- the value says that a prim is not active
+unfoldable pub is_off : Tokens → Bool
+is_off ts = is_word (codes "false") ts || (is Number ts && bytes_eq (text ts) (codes "0"))
+
+-- behind its key, which stands in this line: "=" value
+unfoldable pub behind_key : List ℕ → ℕ → Past
+behind_key key line ts =
+    if is_any left_out_keys key then Err (fault_in line LeftOut)
+    else (do
+      u ← take Equals ts
+      if bytes_eq key (codes "active") && is_off u then Err (fault_at u LeftOut) else value 63 u)
+
+-- [listop] WORD "=" value, where a list op stands before a word alone
+unfoldable pub keyed : Past
+keyed ts = do
+  u ← take Word ts
+  if is_any list_ops (text ts) && is Word u then behind_key (text u) (line_of u) (rest u) else behind_key (text ts) (line_of ts) u
+
+-- entry = (STRING | [listop] WORD "=" value) [";"]
+unfoldable pub entry : Past
+entry ts = do
+  u ← (if is Text ts then Ok (rest ts) else keyed ts)
+  Ok (past_one Semicolon u)
+
+-- [meta], where meta = "(" entry* ")"
+unfoldable pub metadata : Past
+metadata ts = if is OpenRound ts then past CloseRound entry (rest ts) else Ok ts

@@ -1,0 +1,29 @@
+-- Names of prims, of types and of properties.
+use Rattle.std.specs.Prelude.{ℕ, List, [], ◌∷◌, Bool, false, ◌&&◌, ◌||◌, not, ◌==◌, codes}
+use Rattle.std.specs.Str.{bytes_eq}
+use Rattle.std.specs.List.{list_all, slice_split}
+use Rattle.hd_usda.specs.Lexing.{is_letter, is_word}
+
+-- an ASCII identifier
+abbrev pub is_identifier : List ℕ → Bool
+is_identifier [] = false
+is_identifier (b ∷ bs) = is_letter b && list_all is_word bs
+
+-- `inf` and `nan` are numbers and no words
+abbrev pub is_no_word : List ℕ → Bool
+is_no_word text = bytes_eq text (codes "inf") || bytes_eq text (codes "nan")
+
+-- the text is a word
+abbrev pub is_plain_word : List ℕ → Bool
+is_plain_word text = is_identifier text && not (is_no_word text)
+
+abbrev pub is_colon : ℕ → Bool
+is_colon b = b == 58
+
+-- no colon
+abbrev pub is_part : ℕ → Bool
+is_part b = not (is_colon b)
+
+-- the text is words that colons join
+abbrev pub is_joined : List ℕ → Bool
+is_joined text = list_all is_plain_word (slice_split is_colon text)

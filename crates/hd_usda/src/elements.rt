@@ -1,0 +1,106 @@
+//! Lists in the values of used properties.
+
+ghost use Rattle.std.specs.Prelude.{◌≡◌, ◌<◌, false, OnOk};
+ghost use Rattle.hd_usda.specs.declared.lexer.Kind.TheVariants.{CloseSquare, End};
+ghost use Rattle.hd_usda.specs.Lexing.{Tokens};
+ghost use Rattle.hd_usda.specs.Cursors.{count, same_kind, Gives};
+ghost use Rattle.hd_usda.specs.Loops.{all};
+ghost use Rattle.hd_usda.specs.Elements.{one_more, next_element, list_of};
+
+use crate::cursor::Cursor;
+use crate::fault::{LayerFault, LayerWhy};
+use crate::lexer::Kind;
+use crate::limits::Which;
+use crate::number_form::need;
+use hd_num::List;
+use std::alloc::Global;
+
+/// What a list may hold.
+pub trait Element: Drop {
+    ghost use Rattle.hd_usda.specs.Elements.{Reads};
+
+    /// How it is read.
+    ghost how: { Reads Self };
+
+    /// Does it stand in the value of an attribute, and not of a relationship?
+    fn is_in_attribute() -> bool
+        ensures { result ≡ how.attribute };
+
+    /// The kind of its first token.
+    fn begins() -> Kind
+        ensures { result ≡ how.begins };
+
+    /// What is wrong with its first token beyond the limit of elements.
+    fn beyond(text: &[u8]) -> LayerWhy
+        ensures { result ≡ how.beyond text.now };
+
+    /// Reads an element, which is the first or not.
+    fn read(alloc: Global, cursor: &mut Cursor, first: bool) -> Result<Self, LayerFault>
+        ensures gives { Gives (λ item. (item, cursor.new)) result (how.form first cursor.old) }
+        ensures fewer { OnOk result (count cursor.new < count cursor.old) };
+}
+
+/// Reads an element behind others.
+#[tactic(auto, unfolding(crate::specs::Elements::one_more))]
+fn one_more<T: Element>(
+    alloc: Global,
+    cursor: &mut Cursor,
+    found: &mut Vec<T>,
+) -> Result<(), LayerFault>
+    ensures gives { Gives (λ _. (found.new.items, cursor.new)) result (one_more T.how found.old.items cursor.old) }
+    ensures fewer { OnOk result (count cursor.new < count cursor.old) }
+{
+    if cursor.is(T::begins()) && found.len() as u64 >= Which::Elements.number() {
+        return Err(cursor.fault(T::beyond(cursor.text())));
+    }
+    found.push(T::read(alloc, cursor, false)?)?;
+    Ok(())
+}
+
+/// Reads a comma, and the element behind it if there is one.
+#[tactic(auto, unfolding(crate::specs::Elements::next_element))]
+fn next_element<T: Element>(
+    alloc: Global,
+    cursor: &mut Cursor,
+    found: &mut Vec<T>,
+) -> Result<(), LayerFault>
+    ensures gives { Gives (λ _. (found.new.items, cursor.new)) result (next_element T.how found.old.items cursor.old) }
+    ensures fewer { OnOk result (count cursor.new < count cursor.old) }
+{
+    need(cursor, T::is_in_attribute(), Kind::Comma)?;
+    if !cursor.is(Kind::CloseSquare) {
+        one_more(alloc, cursor, found)?;
+    }
+    Ok(())
+}
+
+/// Reads the elements behind the first, to the closing bracket.
+#[tactic(auto, using(crate::proofs::Collecting::collecting))]
+fn rest_of_list<T: Element>(
+    alloc: Global,
+    cursor: &mut Cursor,
+    found: &mut Vec<T>,
+) -> Result<(), LayerFault>
+    ensures gives { Gives (λ _. (found.new.items, cursor.new)) result (all CloseSquare (next_element T.how) found.old.items cursor.old) }
+    ensures fewer { OnOk result (count cursor.new < count cursor.old) }
+{
+    'rest: while !cursor.passes(Kind::CloseSquare) {
+        next_element(alloc, cursor, found)?;
+    }
+    Ok(())
+}
+
+/// Reads a list.
+#[tactic(auto, unfolding(crate::specs::Elements::list_of))]
+pub fn list_of<T: Element>(alloc: Global, cursor: &mut Cursor) -> Result<List<T>, LayerFault>
+    ensures gives { Gives (λ items. (items, cursor.new)) result (list_of T.how cursor.old) }
+    ensures fewer { OnOk result (count cursor.new < count cursor.old) }
+{
+    let mut found = Vec::new(alloc);
+    need(cursor, T::is_in_attribute(), Kind::OpenSquare)?;
+    if !cursor.passes(Kind::CloseSquare) {
+        found.push(T::read(alloc, cursor, true)?)?;
+        rest_of_list(alloc, cursor, &mut found)?;
+    }
+    Ok(List::of(alloc, found)?)
+}

@@ -1,0 +1,126 @@
+//! Metadata that is read past.
+
+ghost use Rattle.std.specs.Prelude.{◌≡◌, ◌<◌, ◌≤◌, ◌&&◌, codes, OnOk};
+ghost use Rattle.std.specs.Str.{bytes_eq};
+ghost use Rattle.hd_usda.specs.declared.lexer.Kind.TheVariants.{CloseRound};
+ghost use Rattle.hd_usda.specs.Cursors.{count, Gives};
+ghost use Rattle.hd_usda.specs.Loops.{past};
+ghost use Rattle.hd_usda.specs.Metadata.{is_any, list_ops, left_out_keys, is_off, behind_key, keyed, entry, metadata};
+
+use crate::cursor::Cursor;
+use crate::fault::{LayerFault, LayerWhy};
+use crate::lexer::Kind;
+use crate::value::value;
+
+/// May the word stand before a key or a property?
+pub fn is_list_op(word: &[u8]) -> bool
+    ensures { result ≡ is_any list_ops word.now }
+{
+    word == b"add".as_slice()
+        || word == b"append".as_slice()
+        || word == b"prepend".as_slice()
+        || word == b"delete".as_slice()
+        || word == b"reorder".as_slice()
+}
+
+/// Is the meaning of the key left out?
+fn is_left_out(key: &[u8]) -> bool
+    ensures { result ≡ is_any left_out_keys key.now }
+{
+    key == b"references".as_slice()
+        || key == b"payload".as_slice()
+        || key == b"inherits".as_slice()
+        || key == b"specializes".as_slice()
+        || key == b"variants".as_slice()
+        || key == b"variantSets".as_slice()
+        || key == b"relocates".as_slice()
+        || key == b"subLayers".as_slice()
+}
+
+fn is_active(key: &[u8]) -> bool
+    ensures { result ≡ bytes_eq key.now (codes "active") }
+{
+    key == b"active".as_slice()
+}
+
+/// Does the next token say that a prim is not active?
+#[tactic(auto, unfolding(crate::specs::Metadata::is_off))]
+fn is_off(cursor: &Cursor) -> bool
+    ensures { result ≡ is_off cursor.now }
+{
+    cursor.is_word(b"false") || (cursor.is(Kind::Number) && cursor.text() == b"0".as_slice())
+}
+
+/// Reads what stands behind a key in this line.
+#[tactic(auto, unfolding(crate::specs::Metadata::behind_key))]
+fn behind_key(cursor: &mut Cursor, key: &[u8], line: u32) -> Result<(), LayerFault>
+    ensures gives { Gives (λ _. cursor.new) result (behind_key key.now line cursor.old) }
+    ensures fewer { OnOk result (count cursor.new < count cursor.old) }
+{
+    if is_left_out(key) {
+        return Err(LayerFault::At {
+            line,
+            why: LayerWhy::LeftOut,
+        });
+    }
+    cursor.take(Kind::Equals)?;
+    if is_active(key) && is_off(cursor) {
+        return Err(cursor.fault(LayerWhy::LeftOut));
+    }
+    value(cursor, 63)
+}
+
+/// Reads an entry with a key.
+#[tactic(auto, unfolding(crate::specs::Metadata::keyed))]
+fn keyed(cursor: &mut Cursor) -> Result<(), LayerFault>
+    ensures gives { Gives (λ _. cursor.new) result (keyed cursor.old) }
+    ensures fewer { OnOk result (count cursor.new < count cursor.old) }
+{
+    let word = cursor.text();
+    let line = cursor.line();
+    cursor.take(Kind::Word)?;
+    if is_list_op(word) && cursor.is(Kind::Word) {
+        let key = cursor.text();
+        let line = cursor.line();
+        cursor.next();
+        behind_key(cursor, key, line)
+    } else {
+        behind_key(cursor, word, line)
+    }
+}
+
+#[tactic(auto, unfolding(crate::specs::Metadata::entry))]
+fn entry(cursor: &mut Cursor) -> Result<(), LayerFault>
+    ensures gives { Gives (λ _. cursor.new) result (entry cursor.old) }
+    ensures fewer { OnOk result (count cursor.new < count cursor.old) }
+{
+    if !cursor.passes(Kind::Text) {
+        keyed(cursor)?;
+    }
+    cursor.passes(Kind::Semicolon);
+    Ok(())
+}
+
+/// Reads the entries to the closing bracket.
+#[tactic(auto, using(crate::proofs::Passing::passing))]
+fn entries(cursor: &mut Cursor) -> Result<(), LayerFault>
+    ensures gives { Gives (λ _. cursor.new) result (past CloseRound entry cursor.old) }
+    ensures fewer { OnOk result (count cursor.new < count cursor.old) }
+{
+    'rest: while !cursor.passes(Kind::CloseRound) {
+        entry(cursor)?;
+    }
+    Ok(())
+}
+
+/// Reads past the metadata, if there is any.
+#[tactic(auto, unfolding(crate::specs::Metadata::metadata))]
+pub fn metadata(cursor: &mut Cursor) -> Result<(), LayerFault>
+    ensures gives { Gives (λ _. cursor.new) result (metadata cursor.old) }
+    ensures fewer { OnOk result (count cursor.new ≤ count cursor.old) }
+{
+    if cursor.passes(Kind::OpenRound) {
+        entries(cursor)?;
+    }
+    Ok(())
+}

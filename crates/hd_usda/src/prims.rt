@@ -1,0 +1,425 @@
+//! Prims, their properties, and prims below them.
+
+ghost use Rattle.std.specs.Prelude.{◌≡◌, ◌≤◌, ◌<◌, ◌+◌, ◌∷◌, ◌++◌, [], nat_lt, length, IsAscii, OnOk, IfOk, IfErr};
+ghost use Rattle.hd_usda.specs.declared.fault.LayerFault.TheVariants.{NoMemory};
+ghost use Rattle.hd_usda.specs.declared.lexer.Kind.TheVariants.{CloseCurly, End};
+ghost use Rattle.std.specs.FinSet.{empty};
+ghost use Rattle.hd_path.specs.Names.{IsName};
+ghost use Rattle.hd_usda.specs.Cursors.{count, Gives};
+ghost use Rattle.hd_usda.specs.Loops.{all};
+ghost use Rattle.hd_usda.specs.Prims.{empty_body, is_prim, prim_type, is_name, next_count, prim_name, head, with_prim, property_item, item, body, prim, root_item, inside_new, layer_of, layer};
+ghost use Rattle.hd_usda.specs.declared.prims.Found.{Found};
+ghost use Rattle.hd_usda.specs.Bodies.{body_view};
+ghost use Rattle.hd_usda.specs.PrimViews.{found_view, inside_view, named_view, head_view};
+
+use crate::cursor::Cursor;
+use crate::fault::{LayerFault, LayerWhy};
+use crate::lexer::Kind;
+use crate::limits::Which;
+use crate::metadata::metadata;
+use crate::property::{Body, new_name, property};
+use crate::seen::Seen;
+use crate::spec::{LayerSpec, PrimSpec, Property};
+use crate::text::{as_text, as_token, no_memory};
+use crate::words::is_identifier;
+use hd_num::List;
+use hd_path::Path;
+use std::alloc::{AllocError, Global};
+use std::collections::BTreeMap;
+
+/// The prims that ended so far, by their paths, and the number of those that began.
+#[derive(Drop)]
+pub struct Found {
+    pub prims: BTreeMap<Path, PrimSpec>,
+    pub count: u64,
+}
+
+/// What stands in a prim so far.
+#[derive(Drop)]
+pub struct Inside {
+    pub names: Seen,
+    pub body: Body,
+}
+
+/// A name, and the number of all prims with this one.
+#[derive(Clone, Copy)]
+pub struct Named<'a> {
+    pub name: &'a [u8],
+    pub count: u64,
+}
+
+/// What stands before the items of a prim.
+#[derive(Clone, Copy)]
+pub struct Head<'a> {
+    pub kind: &'a [u8],
+    pub named: Named<'a>,
+}
+
+impl Body {
+    pub fn new(alloc: Global) -> Body
+        ensures { body_view result ≡ empty_body }
+    {
+        Body {
+            properties: Seen::new(alloc),
+            values: Vec::new(alloc),
+        }
+    }
+}
+
+impl Inside {
+    fn new(alloc: Global) -> Inside
+        ensures names { result.names ≡ empty }
+        ensures body { body_view result.body ≡ empty_body }
+    {
+        Inside {
+            names: Seen::new(alloc),
+            body: Body::new(alloc),
+        }
+    }
+}
+
+#[tactic(auto, unfolding(crate::specs::Prims::is_prim))]
+fn is_prim(cursor: &Cursor) -> bool
+    ensures { result ≡ is_prim cursor.now }
+{
+    cursor.is_word(b"def") || cursor.is_word(b"over") || cursor.is_word(b"class")
+}
+
+fn is_long(name: &[u8]) -> bool
+    ensures { result ≡ nat_lt 64 (length name.now) }
+{
+    name.len() as u64 > Which::Name.number()
+}
+
+/// Reads the type of a prim, which may be missing.
+#[tactic(auto, unfolding(crate::specs::Prims::prim_type))]
+fn prim_type<'a>(cursor: &mut Cursor<'a>) -> Result<&'a [u8], LayerFault>
+    ensures gives { Gives (λ kind. (kind.now, cursor.new)) result (prim_type cursor.old) }
+    ensures ascii { IfOk result (λ kind. IsAscii kind.now) }
+    ensures fewer { OnOk result (count cursor.new ≤ count cursor.old) }
+{
+    if !cursor.is(Kind::Word) {
+        return Ok(&[]);
+    }
+    let kind = cursor.text();
+    if is_long(kind) {
+        return Err(cursor.fault(LayerWhy::Limit(Which::Name)));
+    }
+    cursor.passes(Kind::Word);
+    Ok(kind)
+}
+
+#[tactic(auto, unfolding(crate::specs::Prims::is_name))]
+fn is_name(cursor: &Cursor) -> bool
+    ensures { result ≡ is_name cursor.now }
+{
+    cursor.is(Kind::Text) && is_identifier(cursor.text())
+}
+
+/// The number of prims with one more, which counts or not.
+fn next_count(counts: bool, line: u32, before: u64) -> Result<u64, LayerFault>
+    ensures { Gives (λ n. n) result (next_count counts line before) }
+{
+    if !counts {
+        return Ok(before);
+    }
+    if before >= Which::Prims.number() {
+        return Err(LayerFault::At {
+            line,
+            why: LayerWhy::Limit(Which::Prims),
+        });
+    }
+    Ok(before + 1)
+}
+
+/// Reads a name, where so many may stand below each other.
+#[tactic(auto, unfolding(crate::specs::Prims::prim_name, crate::specs::Prims::is_name))]
+fn prim_name<'a>(
+    alloc: Global,
+    cursor: &mut Cursor<'a>,
+    room: u8,
+    counts: bool,
+    before: u64,
+    names: &mut Seen,
+) -> Result<Named<'a>, LayerFault>
+    ensures gives { Gives (λ named. (named_view named names.new, cursor.new)) result (prim_name room counts before names.old cursor.old) }
+    ensures name { IfOk result (λ named. IsName named.name.now) }
+    ensures fewer { OnOk result (count cursor.new < count cursor.old) }
+{
+    if !is_name(cursor) {
+        return Err(cursor.fault(LayerWhy::Syntax));
+    }
+    if room == 0 {
+        return Err(cursor.fault(LayerWhy::Limit(Which::Depth)));
+    }
+    let name = cursor.text();
+    if is_long(name) {
+        return Err(cursor.fault(LayerWhy::Limit(Which::Name)));
+    }
+    let line = cursor.line();
+    let count = next_count(counts, line, before)?;
+    let key = Vec::from_slice(alloc, name)?;
+    new_name(names, false, key, line)?;
+    cursor.passes(Kind::Text);
+    Ok(Named { name, count })
+}
+
+/// Reads what stands between the first word of a prim and its items.
+#[tactic(auto, unfolding(crate::specs::Prims::head))]
+fn prim_head<'a>(
+    alloc: Global,
+    cursor: &mut Cursor<'a>,
+    room: u8,
+    counts: bool,
+    before: u64,
+    names: &mut Seen,
+) -> Result<Head<'a>, LayerFault>
+    ensures gives { Gives (λ h. (head_view h names.new, cursor.new)) result (head room counts before names.old cursor.old) }
+    ensures kind { IfOk result (λ h. IsAscii h.kind.now) }
+    ensures name { IfOk result (λ h. IsName h.named.name.now) }
+    ensures fewer { OnOk result (count cursor.new < count cursor.old) }
+{
+    let kind = prim_type(cursor)?;
+    let named = prim_name(alloc, cursor, room, counts, before, names)?;
+    metadata(cursor)?;
+    cursor.take(Kind::OpenCurly)?;
+    Ok(Head { kind, named })
+}
+
+/// The path with one more name.
+fn longer(alloc: Global, path: &Path, name: &[u8]) -> Result<Path, LayerFault>
+    requires name { IsName name.now }
+    requires room { length path.now < 32 }
+    ensures longer { IfOk result (λ own. own ≡ path.now ++ name.now ∷ []) }
+    ensures memory { IfErr result (λ fault. fault ≡ NoMemory) }
+{
+    match path.child(alloc, as_text(name)) {
+        Ok(own) => Ok(own),
+        Err(fault) => Err(no_memory(fault)),
+    }
+}
+
+/// The prim of these parts.
+fn prim_of(
+    alloc: Global,
+    path: &Path,
+    kind: &[u8],
+    values: Vec<Property>,
+) -> Result<PrimSpec, LayerFault>
+    requires { IsAscii kind.now }
+    ensures prim { IfOk result (λ prim. prim ≡ record { path = path.now; kind = kind.now; properties = values.items }) }
+    ensures memory { IfErr result (λ fault. fault ≡ NoMemory) }
+{
+    Ok(PrimSpec {
+        path: path.copy()?,
+        kind: as_token(alloc, kind)?,
+        properties: List::of(alloc, values)?,
+    })
+}
+
+/// Keeps a prim that ended, or not.
+fn keep_prim(
+    alloc: Global,
+    kept: bool,
+    path: Path,
+    kind: &[u8],
+    values: Vec<Property>,
+    found: &mut Found,
+) -> Result<(), LayerFault>
+    requires { IsAscii kind.now }
+    ensures kept { OnOk result (found_view found.new ≡ with_prim kept (record { path = path; kind = kind.now; properties = values.items }) (found_view found.old)) }
+    ensures memory { IfErr result (λ fault. fault ≡ NoMemory) }
+{
+    if kept {
+        let prim = prim_of(alloc, &path, kind, values)?;
+        found.prims.insert(path, prim)?;
+    }
+    Ok(())
+}
+
+/// Reads a property of a prim.
+#[tactic(auto, unfolding(crate::specs::Prims::property_item))]
+fn property_item(
+    alloc: Global,
+    cursor: &mut Cursor,
+    counts: bool,
+    inside: &mut Inside,
+) -> Result<(), LayerFault>
+    ensures gives { (found : Found) → Gives (λ _. (inside_view inside.new found, cursor.new)) result (property_item counts (inside_view inside.old found) cursor.old) }
+    ensures fewer { OnOk result (count cursor.new < count cursor.old) }
+{
+    property(alloc, cursor, counts, &mut inside.body)
+}
+
+/// Reads what may stand in a prim.
+#[cycle(items)]
+#[tactic(auto, unfolding(crate::specs::Prims::item))]
+fn item(
+    alloc: Global,
+    cursor: &mut Cursor,
+    room: u8,
+    path: &Path,
+    counts: bool,
+    inside: &mut Inside,
+    found: &mut Found,
+) -> Result<(), LayerFault>
+    requires { length path.now + room ≤ 32 }
+    ensures gives { Gives (λ _. (inside_view inside.new found.new, cursor.new)) result (item (prim room path.now) counts (inside_view inside.old found.old) cursor.old) }
+    ensures fewer { OnOk result (count cursor.new < count cursor.old) }
+{
+    if cursor.is_word(b"variantSet") {
+        return Err(cursor.fault(LayerWhy::LeftOut));
+    }
+    if is_prim(cursor) {
+        let is_class = cursor.is_word(b"class");
+        cursor.next();
+        one_prim(
+            alloc,
+            cursor,
+            room,
+            path,
+            counts && !is_class,
+            inside,
+            found,
+        )?;
+    } else {
+        property_item(alloc, cursor, counts, inside)?;
+    }
+    cursor.passes(Kind::Semicolon);
+    Ok(())
+}
+
+#[cycle(items)]
+#[tactic(auto, using(crate::proofs::Collecting::collecting))]
+fn items(
+    alloc: Global,
+    cursor: &mut Cursor,
+    room: u8,
+    path: &Path,
+    counts: bool,
+    inside: &mut Inside,
+    found: &mut Found,
+) -> Result<(), LayerFault>
+    requires { length path.now + room ≤ 32 }
+    ensures gives { Gives (λ _. (inside_view inside.new found.new, cursor.new)) result (all CloseCurly (item (prim room path.now) counts) (inside_view inside.old found.old) cursor.old) }
+    ensures fewer { OnOk result (count cursor.new < count cursor.old) }
+{
+    'rest: while !cursor.passes(Kind::CloseCurly) {
+        item(alloc, cursor, room, path, counts, inside, found)?;
+    }
+    Ok(())
+}
+
+/// Reads what stands in a prim.
+#[cycle(items)]
+#[tactic(auto, unfolding(crate::specs::Prims::body))]
+fn body(
+    alloc: Global,
+    cursor: &mut Cursor,
+    room: u8,
+    path: &Path,
+    counts: bool,
+    found: &mut Found,
+) -> Result<Inside, LayerFault>
+    requires { length path.now + room ≤ 32 }
+    ensures gives { Gives (λ inside. (inside_view inside found.new, cursor.new)) result (body (prim room path.now) counts (found_view found.old) cursor.old) }
+    ensures fewer { OnOk result (count cursor.new < count cursor.old) }
+{
+    let mut inside = Inside::new(alloc);
+    items(alloc, cursor, room, path, counts, &mut inside, found)?;
+    Ok(inside)
+}
+
+/// Reads a prim behind its first word, where so many names may still stand below each other.
+#[cycle(items)]
+#[tactic(auto, unfolding(crate::specs::Prims::prim))]
+fn one_prim(
+    alloc: Global,
+    cursor: &mut Cursor,
+    room: u8,
+    path: &Path,
+    counts: bool,
+    inside: &mut Inside,
+    found: &mut Found,
+) -> Result<(), LayerFault>
+    requires { length path.now + room ≤ 32 }
+    ensures gives { Gives (λ _. (inside_view inside.new found.new, cursor.new)) result (prim room path.now counts (inside_view inside.old found.old) cursor.old) }
+    ensures fewer { OnOk result (count cursor.new < count cursor.old) }
+{
+    let head = prim_head(alloc, cursor, room, counts, found.count, &mut inside.names)?;
+    if room == 0 {
+        return Ok(());
+    }
+    let own = longer(alloc, path, head.named.name)?;
+    found.count = head.named.count;
+    let inner = body(alloc, cursor, room - 1, &own, counts, found)?;
+    let Inside { names: _, body } = inner;
+    let Body {
+        properties: _,
+        values,
+    } = body;
+    keep_prim(alloc, counts, own, head.kind, values, found)?;
+    Ok(())
+}
+
+/// Reads what stands at the root.
+#[tactic(auto, unfolding(crate::specs::Prims::root_item))]
+fn root_item(
+    alloc: Global,
+    cursor: &mut Cursor,
+    inside: &mut Inside,
+    found: &mut Found,
+) -> Result<(), LayerFault>
+    ensures gives { Gives (λ _. (inside_view inside.new found.new, cursor.new)) result (root_item (inside_view inside.old found.old) cursor.old) }
+    ensures fewer { OnOk result (count cursor.new < count cursor.old) }
+{
+    if is_prim(cursor) {
+        let is_class = cursor.is_word(b"class");
+        cursor.next();
+        one_prim(alloc, cursor, 32, &Path::root(), !is_class, inside, found)
+    } else if cursor.is_word(b"reorder") {
+        Err(cursor.fault(LayerWhy::LeftOut))
+    } else {
+        Err(cursor.fault(LayerWhy::Syntax))
+    }
+}
+
+#[tactic(auto, using(crate::proofs::Collecting::collecting))]
+fn root_items(
+    alloc: Global,
+    cursor: &mut Cursor,
+    inside: &mut Inside,
+    found: &mut Found,
+) -> Result<(), LayerFault>
+    ensures { Gives (λ _. (inside_view inside.new found.new, cursor.new)) result (all End root_item (inside_view inside.old found.old) cursor.old) }
+{
+    'rest: while !cursor.ends() {
+        root_item(alloc, cursor, inside, found)?;
+    }
+    Ok(())
+}
+
+/// The prims that were found, in the order of their paths.
+fn layer_of(alloc: Global, found: Found) -> Result<LayerSpec, AllocError>
+    ensures { IfOk result (λ layer. layer ≡ layer_of (found_view found)) }
+{
+    let prims: Vec<PrimSpec> = found.prims.into_values().collect(alloc)?;
+    Ok(LayerSpec {
+        prims: List::of(alloc, prims)?,
+    })
+}
+
+/// Reads what stands behind the header.
+#[tactic(auto, unfolding(crate::specs::Prims::layer))]
+pub fn layer(alloc: Global, cursor: &mut Cursor) -> Result<LayerSpec, LayerFault>
+    ensures { Gives (λ layer. layer) result (layer cursor.old) }
+{
+    metadata(cursor)?;
+    let mut inside = Inside::new(alloc);
+    let mut found = Found {
+        prims: BTreeMap::new(alloc),
+        count: 0,
+    };
+    root_items(alloc, cursor, &mut inside, &mut found)?;
+    Ok(layer_of(alloc, found)?)
+}

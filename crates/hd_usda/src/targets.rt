@@ -1,0 +1,191 @@
+//! The paths of used relationships.
+
+ghost use Rattle.std.specs.Prelude.{◌≡◌, ◌≤◌, ◌<◌, true, false, nat_lt, length, count_by, IfOk, IfErr, OnOk};
+ghost use Rattle.std.specs.List.{prefix_len};
+ghost use Rattle.hd_usda.specs.declared.fault.LayerFault.TheVariants.{NoMemory};
+ghost use Rattle.hd_usda.specs.Cursors.{count, Gives};
+ghost use Rattle.hd_usda.specs.Targets.{is_slash, no_slash, are_identifiers, is_prim_path, is_long, has_long, names_of, path_in, beyond_list, target, one_target, in_list, targets};
+
+use crate::cursor::Cursor;
+use crate::elements::{Element, list_of};
+use crate::fault::{LayerFault, LayerWhy};
+use crate::lexer::Kind;
+use crate::limits::Which;
+use crate::text::{as_text, no_memory};
+use crate::words::is_identifier;
+use hd_num::List;
+use hd_path::Path;
+use std::alloc::Global;
+
+/// How many bytes stand before the next slash.
+fn name_len(text: &[u8]) -> usize
+    ensures count { result ≡ prefix_len no_slash text.now }
+    ensures bound { result ≤ length text.now }
+{
+    text.iter().take_while(|b| **b != b'/').count()
+}
+
+/// Do identifiers stand between the slashes?
+fn are_identifiers(text: &[u8]) -> bool
+    ensures { result ≡ are_identifiers text.now }
+{
+    let mut rest = text;
+    'parts: loop {
+        let (name, behind) = rest.split_at(name_len(rest));
+        if !is_identifier(name) {
+            return false;
+        }
+        match behind {
+            [] => return true,
+            [_, next @ ..] => rest = next,
+        }
+    }
+}
+
+fn is_prim_path(text: &[u8]) -> bool
+    ensures { result ≡ is_prim_path text.now }
+{
+    match text {
+        [] => false,
+        [b, names @ ..] => *b == b'/' && are_identifiers(names),
+    }
+}
+
+fn slash_count(text: &[u8]) -> usize
+    ensures { result ≡ count_by is_slash text.now }
+{
+    text.iter().filter(|b| **b == b'/').count()
+}
+
+fn is_long(name: &[u8]) -> bool
+    ensures { result ≡ is_long name.now }
+{
+    name.len() as u64 > Which::Name.number()
+}
+
+/// Is a name longer than it may be?
+fn has_long(text: &[u8]) -> bool
+    ensures { result ≡ has_long text.now }
+{
+    let mut rest = text;
+    'parts: loop {
+        let (name, behind) = rest.split_at(name_len(rest));
+        if is_long(name) {
+            return true;
+        }
+        match behind {
+            [] => return false,
+            [_, next @ ..] => rest = next,
+        }
+    }
+}
+
+/// The path that a text spells, which is one within the limits.
+fn spelled(alloc: Global, text: &[u8]) -> Result<Path, LayerFault>
+    requires path { is_prim_path text.now ≡ true }
+    requires shallow { nat_lt 32 (count_by is_slash text.now) ≡ false }
+    requires short { has_long text.now ≡ false }
+    ensures path { IfOk result (λ path. path ≡ names_of text.now) }
+    ensures memory { IfErr result (λ fault. fault ≡ NoMemory) }
+{
+    match Path::parse(alloc, as_text(text)) {
+        Ok(path) => Ok(path),
+        Err(fault) => Err(no_memory(fault)),
+    }
+}
+
+/// The path that a text in this line spells, which may be none, or one beyond the limits.
+fn path_in(alloc: Global, line: u32, text: &[u8]) -> Result<Path, LayerFault>
+    ensures { Gives (λ path. path) result (path_in line text.now) }
+{
+    if !is_prim_path(text) {
+        return Err(LayerFault::At {
+            line,
+            why: LayerWhy::LeftOut,
+        });
+    }
+    if slash_count(text) as u64 > Which::Depth.number() {
+        return Err(LayerFault::At {
+            line,
+            why: LayerWhy::Limit(Which::Depth),
+        });
+    }
+    if has_long(text) {
+        return Err(LayerFault::At {
+            line,
+            why: LayerWhy::Limit(Which::Name),
+        });
+    }
+    spelled(alloc, text)
+}
+
+/// What is wrong with a path beyond the limit of elements.
+fn beyond_list(text: &[u8]) -> LayerWhy
+    ensures { result ≡ beyond_list text.now }
+{
+    if is_prim_path(text) && slash_count(text) as u64 > Which::Depth.number() {
+        LayerWhy::Limit(Which::Depth)
+    } else if is_prim_path(text) && has_long(text) {
+        LayerWhy::Limit(Which::Name)
+    } else {
+        LayerWhy::Limit(Which::Elements)
+    }
+}
+
+/// Reads a path.
+#[tactic(auto, unfolding(crate::specs::Targets::target))]
+fn target(alloc: Global, cursor: &mut Cursor) -> Result<Path, LayerFault>
+    ensures gives { Gives (λ path. (path, cursor.new)) result (target cursor.old) }
+    ensures fewer { OnOk result (count cursor.new < count cursor.old) }
+{
+    let text = cursor.text();
+    let line = cursor.line();
+    cursor.take(Kind::PathText)?;
+    path_in(alloc, line, text)
+}
+
+impl Element for Path {
+    ghost how = { in_list };
+
+    fn is_in_attribute() -> bool {
+        false
+    }
+
+    fn begins() -> Kind {
+        Kind::PathText
+    }
+
+    fn beyond(text: &[u8]) -> LayerWhy {
+        beyond_list(text)
+    }
+
+    fn read(alloc: Global, cursor: &mut Cursor, _first: bool) -> Result<Path, LayerFault> {
+        target(alloc, cursor)
+    }
+}
+
+/// Reads one path, as a list.
+#[tactic(auto, unfolding(crate::specs::Targets::one_target))]
+fn one_target(alloc: Global, cursor: &mut Cursor) -> Result<List<Path>, LayerFault>
+    ensures gives { Gives (λ paths. (paths, cursor.new)) result (one_target cursor.old) }
+    ensures fewer { OnOk result (count cursor.new < count cursor.old) }
+{
+    let mut paths = Vec::new(alloc);
+    paths.push(target(alloc, cursor)?)?;
+    Ok(List::of(alloc, paths)?)
+}
+
+/// Reads the targets of a relationship.
+#[tactic(auto, unfolding(crate::specs::Targets::targets))]
+pub fn targets(alloc: Global, cursor: &mut Cursor) -> Result<List<Path>, LayerFault>
+    ensures gives { Gives (λ paths. (paths, cursor.new)) result (targets cursor.old) }
+    ensures fewer { OnOk result (count cursor.new < count cursor.old) }
+{
+    if cursor.passes_word(b"None") {
+        Ok(List::empty())
+    } else if cursor.is(Kind::PathText) {
+        one_target(alloc, cursor)
+    } else {
+        list_of(alloc, cursor)
+    }
+}

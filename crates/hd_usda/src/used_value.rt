@@ -1,0 +1,223 @@
+//! The values of used attributes.
+
+ghost use Rattle.std.specs.Prelude.{◌≡◌, ◌<◌, ◌∷◌, [], OnOk, IfOk, true};
+ghost use Rattle.hd_num.specs.Matrices.{in_range};
+ghost use Rattle.hd_usda.specs.Cursors.{count, Gives};
+ghost use Rattle.hd_usda.specs.Properties.{visibilities, purposes};
+ghost use Rattle.hd_usda.specs.declared.spec.RawValue.TheVariants as raw;
+ghost use Rattle.hd_usda.specs.Numbers.{number, triple};
+ghost use Rattle.hd_usda.specs.UsedValues.{numbers, triples, op_entry, op_entries, one_of, rows, single, value_of, used_value};
+
+use crate::cursor::Cursor;
+use crate::elements::{Element, list_of};
+use crate::fault::{LayerFault, LayerWhy};
+use crate::lexer::Kind;
+use crate::limits::Which;
+use crate::number_form::{Demand, need, number, row, triple};
+use crate::properties::{Role, is_op_entry, is_purpose, is_visibility};
+use crate::spec::RawValue;
+use crate::text::as_token;
+use hd_num::{List, Matrix, Vec3};
+use hd_path::Token;
+use std::alloc::{AllocError, Global};
+
+impl Element for i64 {
+    ghost how = { numbers };
+
+    fn is_in_attribute() -> bool {
+        true
+    }
+
+    fn begins() -> Kind {
+        Kind::Number
+    }
+
+    fn beyond(_text: &[u8]) -> LayerWhy {
+        LayerWhy::Limit(Which::Elements)
+    }
+
+    fn read(_alloc: Global, cursor: &mut Cursor, _first: bool) -> Result<i64, LayerFault> {
+        number(cursor, Demand::Any)
+    }
+}
+
+impl Element for Vec3 {
+    ghost how = { triples };
+
+    fn is_in_attribute() -> bool {
+        true
+    }
+
+    fn begins() -> Kind {
+        Kind::OpenRound
+    }
+
+    fn beyond(_text: &[u8]) -> LayerWhy {
+        LayerWhy::Limit(Which::Elements)
+    }
+
+    fn read(_alloc: Global, cursor: &mut Cursor, _first: bool) -> Result<Vec3, LayerFault> {
+        triple(cursor, Demand::Any)
+    }
+}
+
+/// Reads an entry of an op order.
+#[tactic(auto, using(crate::proofs::Ascii::op_entry_ascii), unfolding(crate::specs::UsedValues::op_entry))]
+fn op_entry(alloc: Global, cursor: &mut Cursor, first: bool) -> Result<Token, LayerFault>
+    ensures gives { Gives (λ word. (word, cursor.new)) result (op_entry first cursor.old) }
+    ensures fewer { OnOk result (count cursor.new < count cursor.old) }
+{
+    let text = cursor.text();
+    let fault = cursor.fault(LayerWhy::LeftOut);
+    need(cursor, true, Kind::Text)?;
+    if !is_op_entry(first, text) {
+        return Err(fault);
+    }
+    as_token(alloc, text)
+}
+
+impl Element for Token {
+    ghost how = { op_entries };
+
+    fn is_in_attribute() -> bool {
+        true
+    }
+
+    fn begins() -> Kind {
+        Kind::Text
+    }
+
+    fn beyond(_text: &[u8]) -> LayerWhy {
+        LayerWhy::Limit(Which::Elements)
+    }
+
+    fn read(alloc: Global, cursor: &mut Cursor, first: bool) -> Result<Token, LayerFault> {
+        op_entry(alloc, cursor, first)
+    }
+}
+
+/// Reads a visibility.
+#[tactic(auto, using(crate::proofs::Ascii::visibility_ascii), unfolding(crate::specs::UsedValues::one_of))]
+fn visibility(alloc: Global, cursor: &mut Cursor) -> Result<Token, LayerFault>
+    ensures gives { Gives (λ word. (word, cursor.new)) result (one_of visibilities cursor.old) }
+    ensures fewer { OnOk result (count cursor.new < count cursor.old) }
+{
+    let text = cursor.text();
+    let fault = cursor.fault(LayerWhy::LeftOut);
+    need(cursor, true, Kind::Text)?;
+    if !is_visibility(text) {
+        return Err(fault);
+    }
+    as_token(alloc, text)
+}
+
+/// Reads a purpose.
+#[tactic(auto, using(crate::proofs::Ascii::purpose_ascii), unfolding(crate::specs::UsedValues::one_of))]
+fn purpose(alloc: Global, cursor: &mut Cursor) -> Result<Token, LayerFault>
+    ensures gives { Gives (λ word. (word, cursor.new)) result (one_of purposes cursor.old) }
+    ensures fewer { OnOk result (count cursor.new < count cursor.old) }
+{
+    let text = cursor.text();
+    let fault = cursor.fault(LayerWhy::LeftOut);
+    need(cursor, true, Kind::Text)?;
+    if !is_purpose(text) {
+        return Err(fault);
+    }
+    as_token(alloc, text)
+}
+
+/// Reads the rows of a matrix.
+#[tactic(auto, unfolding(crate::specs::UsedValues::rows, hd_num::specs::Matrices::in_range))]
+fn rows(cursor: &mut Cursor) -> Result<[[i64; 3]; 4], LayerFault>
+    ensures gives { Gives (λ rows. (rows, cursor.new)) result (rows cursor.old) }
+    ensures fewer { OnOk result (count cursor.new < count cursor.old) }
+    ensures bound { IfOk result (λ rows. in_range rows ≡ true) }
+{
+    need(cursor, true, Kind::OpenRound)?;
+    let x = row(cursor, Demand::Zero)?;
+    need(cursor, true, Kind::Comma)?;
+    let y = row(cursor, Demand::Zero)?;
+    need(cursor, true, Kind::Comma)?;
+    let z = row(cursor, Demand::Zero)?;
+    need(cursor, true, Kind::Comma)?;
+    let origin = row(cursor, Demand::One)?;
+    need(cursor, true, Kind::CloseRound)?;
+    Ok([x, y, z, origin])
+}
+
+/// Reads a matrix. Numbers within the limit of a literal are in its range.
+#[tactic(auto, unfolding(hd_num::specs::Matrices::bounded))]
+fn matrix(cursor: &mut Cursor) -> Result<Matrix, LayerFault>
+    ensures gives { Gives (λ matrix. (matrix, cursor.new)) result (rows cursor.old) }
+    ensures fewer { OnOk result (count cursor.new < count cursor.old) }
+{
+    match Matrix::of_rows(rows(cursor)?) {
+        Some(matrix) => Ok(matrix),
+        None => unreachable!(),
+    }
+}
+
+/// The list of one item.
+fn one<T: Drop>(alloc: Global, item: T) -> Result<List<T>, AllocError>
+    ensures { IfOk result (λ list. list ≡ item ∷ []) }
+{
+    let mut items = Vec::new(alloc);
+    items.push(item)?;
+    List::of(alloc, items)
+}
+
+/// Reads a triple as a list of one.
+fn one_triple(alloc: Global, cursor: &mut Cursor, demand: Demand) -> Result<RawValue, LayerFault>
+    ensures gives { Gives (λ value. (value, cursor.new)) result (single raw.Triples (triple demand) cursor.old) }
+    ensures fewer { OnOk result (count cursor.new < count cursor.old) }
+{
+    let triple = triple(cursor, demand)?;
+    Ok(RawValue::Triples(one(alloc, triple)?))
+}
+
+/// Reads an angle as a list of one.
+fn one_angle(alloc: Global, cursor: &mut Cursor) -> Result<RawValue, LayerFault>
+    ensures gives { Gives (λ value. (value, cursor.new)) result (single raw.Numbers (number Demand.Turn) cursor.old) }
+    ensures fewer { OnOk result (count cursor.new < count cursor.old) }
+{
+    let degrees = number(cursor, Demand::Turn)?;
+    Ok(RawValue::Numbers(one(alloc, degrees)?))
+}
+
+/// Reads the value that an attribute has by its role.
+fn value_of(alloc: Global, cursor: &mut Cursor, role: Role) -> Result<RawValue, LayerFault>
+    ensures gives { Gives (λ value. (value, cursor.new)) result (value_of role cursor.old) }
+    ensures fewer { OnOk result (count cursor.new < count cursor.old) }
+{
+    match role {
+        Role::Points | Role::Colors | Role::ByteColors => {
+            Ok(RawValue::Triples(list_of(alloc, cursor)?))
+        }
+        Role::Numbers => Ok(RawValue::Numbers(list_of(alloc, cursor)?)),
+        Role::OpOrder => Ok(RawValue::Words(list_of(alloc, cursor)?)),
+        Role::Visibility => {
+            let word = visibility(alloc, cursor)?;
+            Ok(RawValue::Words(one(alloc, word)?))
+        }
+        Role::Purpose => {
+            let word = purpose(alloc, cursor)?;
+            Ok(RawValue::Words(one(alloc, word)?))
+        }
+        Role::Vector | Role::ByteColor => one_triple(alloc, cursor, Demand::Any),
+        Role::Angle => one_angle(alloc, cursor),
+        Role::Angles => one_triple(alloc, cursor, Demand::Turn),
+        Role::Transform => Ok(RawValue::Matrix(matrix(cursor)?)),
+    }
+}
+
+/// Reads the value of a used attribute.
+#[tactic(auto, unfolding(crate::specs::UsedValues::used_value))]
+pub fn used_value(alloc: Global, cursor: &mut Cursor, role: Role) -> Result<RawValue, LayerFault>
+    ensures gives { Gives (λ value. (value, cursor.new)) result (used_value role cursor.old) }
+    ensures fewer { OnOk result (count cursor.new < count cursor.old) }
+{
+    if cursor.is_word(b"None") {
+        return Err(cursor.fault(LayerWhy::LeftOut));
+    }
+    value_of(alloc, cursor, role)
+}
