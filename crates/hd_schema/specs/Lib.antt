@@ -1,0 +1,5 @@
+pub mod Places
+pub mod Colors
+pub mod OpValues
+pub mod Values
+pub mod Authored
