@@ -1,0 +1,5 @@
+pub mod Together
+pub mod Shaping
+pub mod Apart
+pub mod Places
+pub mod Naming

@@ -1,0 +1,12 @@
+use Rattle.hd_merging.specs.MergedScenes.{get-merged, there-merged}
+use Rattle.hd_merging.proofs.Shaping.{value_at-merged}
+use Rattle.hd_merging.proofs.laws.merging_is_path_by_path.Goals as goal
+
+pub returns-clause-prims : goal.returns-clause-prims
+returns-clause-prims c = get-merged
+
+pub returns-clause-values : goal.returns-clause-values
+returns-clause-values c = value_at-merged
+
+pub returns-clause-paths : goal.returns-clause-paths
+returns-clause-paths c = there-merged

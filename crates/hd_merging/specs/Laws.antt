@@ -1,0 +1,46 @@
+-- What follows from the definitions.
+use Rattle.std.specs.Prelude.{◌≡◌, ℕ, Bool, List, [], ◌∷◌, ◌++◌, map, All, is_some, IsTrue}
+use Rattle.std.specs.List.{list_any}
+use Rattle.std.specs.FinMap.{get}
+use Rattle.hd_value.specs.declared.value.Value.{Value}
+use Rattle.hd_value.specs.Locators.{is_prefix}
+use Rattle.hd_value.specs.Maps.{overlaid_at}
+use Rattle.hd_scene.specs.Scenes.{Scene, value_at, IsClosed, IsShapedBy}
+use Rattle.hd_merging.specs.Merges.{merged, merged_entry, prims_at}
+
+-- what the merged scene has at a path is what the prims of the scenes at that path are together
+abbrev pub MergesPathByPath : Type 0
+MergesPathByPath = (scenes : List Scene) (path : List (List ℕ)) → get (merged scenes) path ≡ merged_entry (prims_at scenes path)
+
+-- so a path is in the merged scene exactly where it is in one of the scenes
+abbrev pub MergesAllPaths : Type 0
+MergesAllPaths = (scenes : List Scene) (path : List (List ℕ)) → is_some (get (merged scenes) path) ≡ list_any (λ scene. is_some (get scene path)) scenes
+
+-- and at a locator it has the value of the first of these prims that has one at a locator that intersects it
+abbrev pub MergesValues : Type 0
+MergesValues = (scenes : List Scene) (path at : List (List ℕ)) → value_at (merged scenes) path at ≡ overlaid_at (map (λ e. e.values) (prims_at scenes path)) at
+
+-- one scene alone is merged into itself
+abbrev pub MergesOne : Type 0
+MergesOne = (scene : Scene) → merged (scene ∷ []) ≡ scene
+
+-- the weaker scenes may be merged first
+abbrev pub MergesWeakerFirst : Type 0
+MergesWeakerFirst = (stronger weaker : List Scene) → merged (stronger ++ merged weaker ∷ []) ≡ merged (stronger ++ weaker)
+
+-- no value of the shape may stand above another one
+abbrev pub IsUnnested : (List (List ℕ) → Value → Bool) → Type 0
+IsUnnested may_stand = (a b : List (List ℕ)) (v w : Value) → IsTrue (may_stand a v) → IsTrue (may_stand b w) → IsTrue (is_prefix a b) → a ≡ b
+
+-- the stronger ones may be merged first where their values are of such a shape. Else a value that is hidden in the merged
+-- stronger scenes no longer hides those of weaker scenes that it intersects
+abbrev pub MergesStrongerFirst : Type 0
+MergesStrongerFirst = (may_stand : List (List ℕ) → Value → Bool) (stronger weaker : List Scene) → IsUnnested may_stand → All (IsShapedBy may_stand) stronger → merged (merged stronger ∷ weaker) ≡ merged (stronger ++ weaker)
+
+-- closed scenes are merged into a closed one
+abbrev pub MergesClosed : Type 0
+MergesClosed = (scenes : List Scene) → All IsClosed scenes → IsClosed (merged scenes)
+
+-- where each scene has values of a shape alone, the merged one has
+abbrev pub MergesShaped : Type 0
+MergesShaped = (may_stand : List (List ℕ) → Value → Bool) (scenes : List Scene) → All (IsShapedBy may_stand) scenes → IsShapedBy may_stand (merged scenes)

@@ -1,0 +1,25 @@
+//! What holds of every merged scene.
+
+ghost use Rattle.hd_merging.specs.Laws.{MergesPathByPath, MergesAllPaths, MergesValues, MergesOne, MergesWeakerFirst, MergesStrongerFirst, MergesClosed, MergesShaped};
+
+/// A path is in the merged scene where one of the scenes has it, with the first kind that is not empty, and with the
+/// values of which no earlier one intersects the locator.
+pub fn merging_is_path_by_path()
+    ensures prims { MergesPathByPath }
+    ensures paths { MergesAllPaths }
+    ensures values { MergesValues }
+{}
+
+/// One scene alone stays as it is. The weaker scenes may be merged first, and the stronger ones too where no value of
+/// theirs stands above another one.
+pub fn merging_is_associative()
+    ensures one { MergesOne }
+    ensures weaker_first { MergesWeakerFirst }
+    ensures stronger_first { MergesStrongerFirst }
+{}
+
+/// Merged scenes are closed where each is, and have values of a shape where each has.
+pub fn merging_keeps_form()
+    ensures closed { MergesClosed }
+    ensures shaped { MergesShaped }
+{}
