@@ -1,0 +1,12 @@
+pub mod Places
+pub mod Kept
+pub mod Authoring
+pub mod Listing
+pub mod PathNames
+pub mod Depths
+pub mod Gathering
+pub mod Closed
+pub mod Spelled
+pub mod Moving
+pub mod Renamed
+pub mod Copies

@@ -1,0 +1,155 @@
+-- The layers that texts spell.
+use Rattle.std.proofs.Common.{◌≡◌, ℕ, ◌+◌, ◌-◌, ◌<◌, suc, Bool, true, false, ◌&&◌, ◌||◌, ◌==◌, cond, nat_le, List, [], ◌∷◌, ◌++◌, length, get_or, map, take, drop, Some, None, is_some, refl, sym, ◌∙◌, ap, take-append-drop, drop-cons}
+use Rattle.std.proofs.lemmas.Bool.Decides.{Decides-eqb}
+use Rattle.std.proofs.lemmas.List.{take_more, map-append}
+use Rattle.std.specs.List.{list_all, list_any}
+use Rattle.std.specs.Map.{keys_of, lookup}
+use Rattle.std.specs.Ordering.{eq_by_cmp, is_eq, is_lt, ordering_reverse}
+use Rattle.std.specs.declared.cmp.Ordering.{Ordering}
+use Rattle.std.specs.declared.cmp.Ordering.TheVariants.{Less, Equal, Greater}
+use Rattle.std.specs.FinMap.{get, find, insert, from_entries, from_entries_push, get-from_entries}
+use Rattle.std.specs.FinMap.Entries.{is_some-find}
+use Rattle.std.specs.BTreeMap.{BTreeMap}
+use Rattle.hd_usda.specs.declared.spec.PrimSpec.{PrimSpec}
+use Rattle.hd_usda.specs.declared.spec.LayerSpec.{LayerSpec}
+use Rattle.hd_usda.specs.WellFormed.{is_layer, is_prim_spec, is_path, is_kind, is_property, are_distinct, ascend, has_parent}
+use Rattle.hd_schema.proofs.Lookups.{and_true, true_is_not}
+use Rattle.hd_scene.specs.Scenes.{path_cmp, IsClosed}
+use Rattle.hd_scene.proofs.Children.{path_cmp_total, path_cmp_exact}
+use Rattle.hd_scene.proofs.Closing.{tied}
+use Rattle.hd_retained.specs.declared.held.Place.{Place}
+use Rattle.hd_retained.specs.declared.held.Held.{Held}
+use Rattle.hd_retained.specs.Layers.{LayerPrim, Layer, spelled_prim, prim_at_path, layer_of, scene_of}
+use Rattle.hd_retained.specs.Indexed.{place_cmp, IsSound}
+use Rattle.hd_retained.proofs.Listing.{names}
+use Rattle.hd_retained.proofs.PathNames.{formed_path, formed_below_root}
+use Rattle.hd_retained.proofs.Closed.{closed_by, parent_is}
+
+abbrev Names : Type 0
+Names = List (List ℕ)
+
+abbrev paths_of : List PrimSpec → List Names
+paths_of ps = map (λ (p : PrimSpec). p.path) ps
+
+-- the prims of some of a layer
+abbrev pub layer_from : List PrimSpec → Layer
+layer_from ps = from_entries (map prim_at_path ps)
+
+spelled_keys : (ps : List PrimSpec) → keys_of (map prim_at_path ps) ≡ paths_of ps
+spelled_keys [] = refl
+spelled_keys (p ∷ ps) = ap (λ (qs : List Names). p.path ∷ qs) (spelled_keys ps)
+
+spelled_there : (ps : List PrimSpec) (q : Names) → is_some (get (layer_from ps) q) ≡ list_any (eq_by_cmp path_cmp q) (paths_of ps)
+spelled_there ps q = ap is_some (get-from_entries path_cmp_total (map prim_at_path ps) q) ∙ is_some-find path_cmp q (map prim_at_path ps) ∙ ap (list_any (eq_by_cmp path_cmp q)) (spelled_keys ps)
+
+-- a fact of each path is one of the path that is listed
+all_listed : (fact : Names → Bool) (ps : List Names) (q : Names) → list_all fact ps ≡ true → list_any (eq_by_cmp path_cmp q) ps ≡ true → fact q ≡ true
+all_listed fact [] q all there = true_is_not (sym there)
+all_listed fact (p ∷ ps) q all there =
+    let both = and_true (fact p) (list_all fact ps) all in
+    elim (eq_by_cmp path_cmp q p) as (λ b. eq_by_cmp path_cmp q p ≡ b → (b || list_any (eq_by_cmp path_cmp q) ps) ≡ true → fact q ≡ true) [
+      | true ↦ λ same _. ap fact (tied q p same) ∙ both.0
+      | false ↦ λ _ later. all_listed fact ps q both.1 later
+    ] refl there
+
+-- the parts of a well formed layer
+record IsSpelled (l : LayerSpec) : Type 0 where
+  pub formed : list_all is_prim_spec l.prims ≡ true
+  pub ascends : ascend (paths_of l.prims) ≡ true
+  pub parents : list_all (has_parent (paths_of l.prims)) (paths_of l.prims) ≡ true
+
+parts : (l : LayerSpec) → is_layer l ≡ true → IsSpelled l
+parts l h =
+    let a = and_true _ (list_all (has_parent (paths_of l.prims)) (paths_of l.prims)) h in
+    let b = and_true _ (ascend (paths_of l.prims)) a.0 in
+    let d = and_true _ (list_all is_prim_spec l.prims) b.0 in
+    record { formed = d.1; ascends = b.1; parents = a.1 }
+
+spec_path : (p : PrimSpec) → is_prim_spec p ≡ true → is_path p.path ≡ true
+spec_path p h =
+    let a = and_true _ (are_distinct (names p.properties)) h in
+    let b = and_true _ (list_all is_property p.properties) a.0 in
+    (and_true (is_path p.path) (is_kind p.kind) b.0).0
+
+formed_paths : (ps : List PrimSpec) → list_all is_prim_spec ps ≡ true → list_all is_path (paths_of ps) ≡ true
+formed_paths [] h = refl
+formed_paths (p ∷ ps) h =
+    let both = and_true (is_prim_spec p) (list_all is_prim_spec ps) h in
+    ap (λ b. b && list_all is_path (paths_of ps)) (spec_path p both.0) ∙ formed_paths ps both.1
+
+not_there : (b : Bool) → (b ≡ true → ⊥) → b ≡ false
+not_there true h = absurd (h refl)
+not_there false h = refl
+
+-- each prim of a well formed layer is below its parent
+pub spelled_closed : (l : LayerSpec) → is_layer l ≡ true → IsClosed (scene_of (layer_of l))
+spelled_closed l h =
+    let p = parts l h in
+    let paths : List Names = paths_of l.prims in
+    let formed : list_all is_path paths ≡ true = formed_paths l.prims p.formed in
+    closed_by (layer_of l)
+    (not_there (is_some (get (layer_of l) [])) (λ there. formed_below_root [] (all_listed is_path paths [] formed (sym (spelled_there l.prims []) ∙ there)) refl))
+    (λ path name below there.
+    let q : Names = path ++ name ∷ below ∷ [] in
+    let listed : list_any (eq_by_cmp path_cmp q) paths ≡ true = sym (spelled_there l.prims q) ∙ there in
+    let parent = parent_is q path name below refl in
+    let has : has_parent paths q ≡ true = all_listed (has_parent paths) paths q p.parents listed in
+    spelled_there l.prims (path ++ name ∷ [])
+    ∙ sym (ap (λ b. b || list_any (λ other. is_eq (path_cmp (take (length q - 1) q) other)) paths) (not_one (length q) parent.1) ∙ ap (λ (z : Names). list_any (λ other. is_eq (path_cmp z other)) paths) parent.0)
+    ∙ has)
+    (λ path there. formed_path path (all_listed is_path paths path formed (sym (spelled_there l.prims path) ∙ there)))
+  where
+    not_one : (n : ℕ) → nat_le n 1 ≡ false → (n == 1) ≡ false
+    not_one n more = not_there (n == 1) (λ one. true_is_not (sym (ap (λ (k : ℕ). nat_le k 1) ((Decides-eqb n 1).0 one)) ∙ more))
+
+is_less : (r : Ordering) → is_lt r ≡ true → r ≡ Less
+is_less Less h = refl
+is_less Equal h = cc
+is_less Greater h = cc
+
+-- a path behind another one is not that
+behind : (p q : Names) → is_lt (path_cmp p q) ≡ true → eq_by_cmp path_cmp q p ≡ false
+behind p q h = ap is_eq (path_cmp_total.antisymm q p ∙ ap ordering_reverse (is_less (path_cmp p q) h))
+
+last_of : (fact : Names → Bool) (front rest : List PrimSpec) (p : PrimSpec) → list_all fact (paths_of (front ++ p ∷ rest)) ≡ true → fact p.path ≡ true
+last_of fact [] rest p h = (and_true (fact p.path) (list_all fact (paths_of rest)) h).0
+last_of fact (x ∷ front) rest p h = last_of fact front rest p (and_true (fact x.path) (list_all fact (paths_of (front ++ p ∷ rest))) h).1
+
+-- a path is new behind those before it
+new_path : (front rest : List PrimSpec) (p : PrimSpec) → ascend (paths_of (front ++ p ∷ rest)) ≡ true → find path_cmp p.path (map prim_at_path front) ≡ None
+new_path [] rest p h = refl
+new_path (x ∷ front) rest p h =
+    let both = and_true (list_all (λ next. is_lt (path_cmp x.path next)) (paths_of (front ++ p ∷ rest))) (ascend (paths_of (front ++ p ∷ rest))) h in
+    ap (λ b. cond b (Some (spelled_prim x)) (find path_cmp p.path (map prim_at_path front))) (behind x.path p.path (last_of (λ next. is_lt (path_cmp x.path next)) front rest p both.0))
+    ∙ new_path front rest p both.1
+
+split_next : (ps : List PrimSpec) (i : ℕ) (p : PrimSpec) → i < length ps → p ≡ get_or ps i p → take i ps ++ p ∷ drop (suc i) ps ≡ ps
+split_next ps i p below is =
+    ap (λ (x : PrimSpec). take i ps ++ x ∷ drop (suc i) ps) is
+    ∙ ap (λ (rest : List PrimSpec). take i ps ++ rest) (sym (drop-cons ps i p below))
+    ∙ take-append-drop i ps
+
+-- the next prim is well formed
+pub next_formed : (l : LayerSpec) (items : List PrimSpec) (i : ℕ) (p : PrimSpec) → is_layer l ≡ true → items ≡ l.prims → i < length items → p ≡ get_or items i p → is_prim_spec p ≡ true
+next_formed l items i p h same below is =
+    here (take i items) (drop (suc i) items) (ap (list_all is_prim_spec) (split_next items i p below is ∙ same) ∙ (parts l h).formed)
+  where
+    here : (front rest : List PrimSpec) → list_all is_prim_spec (front ++ p ∷ rest) ≡ true → is_prim_spec p ≡ true
+    here [] rest all = (and_true (is_prim_spec p) (list_all is_prim_spec rest) all).0
+    here (x ∷ front) rest all = here front rest (and_true (is_prim_spec x) (list_all is_prim_spec (front ++ p ∷ rest)) all).1
+
+-- the layer with the next prim
+pub next_layer : (l : LayerSpec) (items : List PrimSpec) (i : ℕ) (p : PrimSpec) → is_layer l ≡ true → items ≡ l.prims → i < length items → p ≡ get_or items i p → insert (layer_from (take i items)) p.path (spelled_prim p) ≡ layer_from (take (i + 1) items)
+next_layer l items i p h same below is =
+    let ascends : ascend (paths_of (take i items ++ p ∷ drop (suc i) items)) ≡ true = ap (λ (ps : List PrimSpec). ascend (paths_of ps)) (split_next items i p below is ∙ same) ∙ (parts l h).ascends in
+    sym (from_entries_push path_cmp_total path_cmp_exact (map prim_at_path (take i items)) p.path (spelled_prim p) (new_path (take i items) (drop (suc i) items) p ascends))
+    ∙ ap (λ (es : List (Names × LayerPrim)). from_entries {R = path_cmp} es) (sym (map-append prim_at_path (take i items) (p ∷ [])) ∙ ap (map prim_at_path) (sym (take_more items i p below ∙ ap (λ (x : PrimSpec). take i items ++ x ∷ []) (sym is))))
+
+pub empty_sound : (m : BTreeMap Place Held) → m.entries ≡ [] → IsSound m
+empty_sound m none = record {
+  placed = λ q there. true_is_not (sym there ∙ ap (λ (es : List (Place × Held)). is_some (lookup (λ k. is_eq (place_cmp q k)) es)) none);
+  held = λ q h is. absurd (nothing h (sym is ∙ ap (lookup (λ k. is_eq (place_cmp q k))) none));
+}
+  where
+    nothing : (h : Held) → Some h ≡ None → ⊥
+    nothing h e = cc

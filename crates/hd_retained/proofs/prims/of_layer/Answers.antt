@@ -1,0 +1,42 @@
+use Rattle.std.proofs.Common.{◌≡◌, List, take, map, sym, ◌∙◌, ap, subst}
+use Rattle.std.proofs.lemmas.List.{take_all}
+use Rattle.std.specs.FinMap.{insert, from_entries}
+use Rattle.hd_scene.specs.Scenes.{path_cmp, IsClosed}
+use Rattle.hd_retained.specs.declared.held.Place.{Place}
+use Rattle.hd_retained.specs.declared.held.Held.{Held}
+use Rattle.hd_retained.specs.Layers.{LayerPrim, Layer, layer_of, scene_of}
+use Rattle.hd_retained.specs.Indexed.{layer_in, prim_of, prim_at}
+use Rattle.hd_retained.proofs.Spelled.{layer_from, empty_sound, next_formed, next_layer, spelled_closed}
+use Rattle.hd_retained.proofs.prims.of_layer.Goals as goal
+
+pub loop-spec-init : goal.loop-spec-init
+loop-spec-init c = record {
+  sound = empty_sound c.new-prims.result c.new-prims.ensures.empty;
+  layer = ap (λ (es : List (Place × Held)). from_entries {R = path_cmp} (map prim_at es)) c.new-prims.ensures.empty;
+}
+
+pub of_spec-requires : goal.of_spec-requires
+of_spec-requires c = next_formed c.args.layer.now c.items-spec-items.result.now c.loop-spec.spec-index c.spec-item.result c.requires c.items-spec-items.ensures c.loop-spec-test.true c.spec-item.is
+
+pub loop-spec-preserved : goal.loop-spec-preserved
+loop-spec-preserved c = record {
+  sound = c.in_ok-put.ensures.sound;
+  layer =
+      c.in_ok-put.ensures.ok
+      ∙ ap (λ (l : Layer). insert l c.spec-item.result.path (prim_of c.in_ok-of_spec.field-0)) c.loop-spec.invariant.layer
+      ∙ ap (λ (p : LayerPrim). insert (layer_from (take c.loop-spec.spec-index c.items-spec-items.result.now)) c.spec-item.result.path p) c.in_ok-of_spec.ensures.prim
+      ∙ next_layer c.args.layer.now c.items-spec-items.result.now c.loop-spec.spec-index c.spec-item.result c.requires c.items-spec-items.ensures c.loop-spec-test.true c.spec-item.is;
+}
+
+pub returns-clause-layer : goal.returns-clause-layer
+returns-clause-layer c =
+    c.loop-spec.invariant.layer ∙ ap layer_from (take_all c.loop-spec.spec-index c.items-spec-items.result.now c.loop-spec-test.false ∙ c.items-spec-items.ensures)
+
+pub returns-clause-index : goal.returns-clause-index
+returns-clause-index c =
+    let all : layer_in c.loop-spec.prims ≡ layer_of c.args.layer.now =
+    c.loop-spec.invariant.layer ∙ ap layer_from (take_all c.loop-spec.spec-index c.items-spec-items.result.now c.loop-spec-test.false ∙ c.items-spec-items.ensures) in
+    record {
+      sound = c.loop-spec.invariant.sound;
+      closed = subst (λ (l : Layer). IsClosed (scene_of l)) (sym all) (spelled_closed c.args.layer.now c.requires);
+    }

@@ -1,0 +1,93 @@
+-- The layer after an edit, or the refusal of the edit, and the notices of the change.
+use Rattle.std.specs.Prelude.{◌≡◌, ◌⊎◌, ℕ, ◌-◌, Bool, not, ◌&&◌, ◌||◌, nat_le, nat_lt, if◌then◌else◌, List, [], ◌∷◌, ◌++◌, length, take, drop, map, Option, Some, None, Result, Ok, Err}
+use Rattle.std.specs.List.{list_any}
+use Rattle.std.specs.Coded.{Coded, code_by, coded×, coded_ℕ}
+use Rattle.std.specs.FinMap.{get, contains_key, insert, remove, retain_keys, len, keys, entries, empty, from_entries}
+use Rattle.hd_usda.specs.declared.limits.Which.TheVariants.{Prims, Depth}
+use Rattle.hd_usda.specs.declared.spec.Property.{Property}
+use Rattle.hd_usda.specs.Limits.{limit_of}
+use Rattle.hd_value.specs.Locators.{is_prefix}
+use Rattle.hd_scene.specs.declared.notice.Notice.{Notice}
+use Rattle.hd_scene.specs.declared.notice.Notice.TheVariants.{Dirtied}
+use Rattle.hd_retained.specs.declared.fault.EditFault.{EditFault}
+use Rattle.hd_retained.specs.declared.fault.EditFault.TheVariants.{NoPrim, PrimThere, UnderItself, Limit, NoMemory}
+use Rattle.hd_retained.specs.Layers.{LayerPrim, Layer, layer_code}
+use Rattle.std.proofs.Common.{refl}
+
+-- a layer as an index, which counts its answers
+pub record State : Type 0 where
+  pub layer : Layer
+  pub pulls : ℕ
+
+abbrev pub state_code : Coded State
+state_code = code_by (Layer × ℕ) (coded× layer_code coded_ℕ) (λ s. (s.layer, s.pulls)) (λ p. record { layer = p.0; pulls = p.1 }) (λ _. refl)
+
+-- whether a prim may stand at the path: its parent is the root, or is there
+abbrev pub has_parent : Layer → List (List ℕ) → Bool
+has_parent layer path = nat_le (length path) 1 || contains_key layer (take (length path - 1) path)
+
+-- one more prim than a layer may have
+abbrev pub is_full_for : Layer → List (List ℕ) → Bool
+is_full_for layer path = not (contains_key layer path) && nat_le (limit_of Prims) (len layer)
+
+-- a prim of the kind, without properties. What is below it stays
+abbrev pub after_define : Layer → List ℕ → List (List ℕ) → Result Layer EditFault
+after_define layer kind path =
+    if not (has_parent layer path) then Err NoPrim
+    else (if is_full_for layer path then Err (Limit Prims)
+    else Ok (insert layer path (record { kind = kind; properties = empty })))
+
+-- the layer with another prim in place of the one that is there
+abbrev pub changed : (LayerPrim → LayerPrim) → Layer → List (List ℕ) → Option LayerPrim → Result Layer EditFault
+changed change layer path None = Err NoPrim
+changed change layer path (Some p) = Ok (insert layer path (change p))
+
+abbrev pub with_value : Property → LayerPrim → LayerPrim
+with_value property p = record { kind = p.kind; properties = insert p.properties property.name property.value }
+
+abbrev pub without_value : List ℕ → LayerPrim → LayerPrim
+without_value name p = record { kind = p.kind; properties = remove p.properties name }
+
+-- the property has the value
+abbrev pub after_set : Layer → List (List ℕ) → Property → Result Layer EditFault
+after_set layer path property = changed (with_value property) layer path (get layer path)
+
+-- no value is authored by this name
+abbrev pub after_clear : Layer → List (List ℕ) → List ℕ → Result Layer EditFault
+after_clear layer path name = changed (without_value name) layer path (get layer path)
+
+-- what is at and below the path is gone
+abbrev pub after_remove : Layer → List (List ℕ) → Result Layer EditFault
+after_remove layer path =
+    if contains_key layer path then Ok (retain_keys layer (λ p. not (is_prefix path p)))
+    else Err NoPrim
+
+-- a path with the second prefix in place of the first one, where it begins with that
+abbrev pub moved : (from to path : List (List ℕ)) → List (List ℕ)
+moved from to path = if is_prefix from path then to ++ drop (length from) path else path
+
+-- whether the path would have too many names
+abbrev pub is_moved_too_deep : (from to path : List (List ℕ)) → Bool
+is_moved_too_deep from to path = is_prefix from path && nat_lt (limit_of Depth) (length (moved from to path))
+
+abbrev pub moved_prim : (from to : List (List ℕ)) → List (List ℕ) × LayerPrim → List (List ℕ) × LayerPrim
+moved_prim from to e = (moved from to e.0, e.1)
+
+-- what is at and below the first path is at and below the second one
+abbrev pub after_rename : Layer → (from to : List (List ℕ)) → Result Layer EditFault
+after_rename layer from to =
+    if not (contains_key layer from) then Err NoPrim
+    else (if is_prefix from to then Err UnderItself
+    else (if not (has_parent layer to) then Err NoPrim
+    else (if contains_key layer to then Err PrimThere
+    else (if list_any (is_moved_too_deep from to) (keys layer) then Err (Limit Depth)
+    else Ok (from_entries (map (moved_prim from to) (entries layer)))))))
+
+-- the edit is refused so, or memory ran out
+abbrev pub IsRefusal : Result Layer EditFault → EditFault → Type 0
+IsRefusal expected fault = (fault ≡ NoMemory) ⊎ (expected ≡ Err fault)
+
+-- that values at these locators may have changed, where there are any
+abbrev pub dirtied : List (List ℕ) → List (List (List ℕ)) → List Notice
+dirtied path [] = []
+dirtied path (at ∷ more) = Dirtied path (at ∷ more) ∷ []

@@ -1,0 +1,208 @@
+//! A layer as a scene index, and its edits.
+
+ghost use Rattle.std.specs.Prelude.{◌≡◌, ◌≢◌, [], ◌∷◌, Ok, OnOk, OnErr, IfOk, IfErr, IsTrue};
+ghost use Rattle.hd_usda.specs.WellFormed.{is_property, is_layer};
+ghost use Rattle.hd_schema.specs.Places.{locators_of};
+ghost use Rattle.hd_scene.specs.declared.notice.Notice.TheVariants.{Added, Removed, Dirtied, Renamed};
+ghost use Rattle.hd_scene.specs.Scenes.{IsClosed};
+ghost use Rattle.hd_retained.specs.Layers.{layer_of, scene_of};
+ghost use Rattle.hd_retained.specs.Edits.{after_define, after_set, after_clear, after_remove, after_rename, dirtied, IsRefusal};
+
+use crate::fault::EditFault;
+use crate::layer::Layer;
+use hd_num::List;
+use hd_path::{Path, Token};
+use hd_scene::{Notice, Notices, Prim, SceneIndex};
+use hd_schema::locators_of;
+use hd_usda::{LayerSpec, Property};
+use hd_value::LocatorSet;
+use std::alloc::{AllocError, Global};
+use std::marker::Model;
+
+/// A layer as a scene index, which is always in step with it.
+///
+/// An edit answers the notices of its change. Refused it changes nothing.
+#[derive(Drop)]
+pub struct Retained {
+    layer: Layer,
+    pulls: u64,
+}
+
+impl Model for Retained {
+    ghost use Rattle.hd_retained.specs.Edits.{State, state_code};
+
+    ghost Value = { State };
+
+    ghost coded = { state_code };
+
+    ghost view = { λ a. record { layer = a.layer; pulls = a.pulls } };
+}
+
+impl SceneIndex for Retained {
+    type Origin = Layer;
+
+    ghost scene = { λ index. scene_of index.layer };
+
+    ghost origin = { λ index. index.layer };
+
+    ghost is_in_step = { λ index. IsClosed (scene_of index.layer) };
+
+    ghost pulls = { λ index. index.pulls };
+
+    fn prim(&mut self, alloc: Global, path: &Path) -> Result<Prim, AllocError> {
+        self.pulls = self.pulls.saturating_add(1);
+        self.layer.prim(alloc, path)
+    }
+
+    fn children(&mut self, alloc: Global, path: &Path) -> Result<List<Token>, AllocError> {
+        self.layer.children(alloc, path)
+    }
+
+    fn pulls(&self) -> u64 {
+        self.pulls
+    }
+
+    ghost closed = { λ index in_step. in_step };
+}
+
+impl Retained {
+    /// The index of a layer that was read. The call fails for want of memory alone.
+    pub fn from_layer(alloc: Global, layer: LayerSpec) -> Result<Retained, AllocError>
+        requires { IsTrue (is_layer layer) }
+        ensures layer { IfOk result (λ made. made.layer ≡ layer_of layer) }
+        ensures in_step { IfOk result (λ made. IsClosed (scene_of made.layer)) }
+        ensures pulls { IfOk result (λ made. made.pulls ≡ 0) }
+    {
+        Ok(Retained {
+            layer: Layer::of(alloc, &layer)?,
+            pulls: 0,
+        })
+    }
+
+    /// The index is in step: a fact for proofs, which costs nothing.
+    pub fn is_in_step(&self)
+        ensures { IsClosed (scene_of self.now.layer) }
+    {
+        self.layer.is_closed();
+    }
+
+    /// Puts a prim of this kind at a path, without properties. What is below it stays. Notice: added.
+    ///
+    /// `NoPrim` where no prim is at the parent, then `Limit(Prims)` of a 65,537th prim.
+    pub fn define(&mut self, alloc: Global, kind: &Token, path: &Path) -> Result<Notices, EditFault>
+        requires { path.now ≢ [] }
+        ensures done { OnOk result (after_define self.old.layer kind.now path.now ≡ Ok self.new.layer) }
+        ensures notices { IfOk result (λ notices. notices ≡ Added path.now kind.now ∷ []) }
+        ensures refusal { IfErr result (IsRefusal (after_define self.old.layer kind.now path.now)) }
+        ensures err { OnErr result (self.new ≡ self.old) }
+        ensures in_step { IsClosed (scene_of self.new.layer) }
+        ensures same_pulls { self.new.pulls ≡ self.old.pulls }
+    {
+        self.layer.is_closed();
+        let notices = only(alloc, Notice::Added(path.copy()?, kind.copy()?))?;
+        self.layer.define(alloc, kind, path)?;
+        Ok(notices)
+    }
+
+    /// Gives a property of the prim at a path a value. Notice: dirtied, also where the property has that value.
+    ///
+    /// `NoPrim` where no prim is there.
+    pub fn set(
+        &mut self,
+        alloc: Global,
+        path: &Path,
+        property: &Property,
+    ) -> Result<Notices, EditFault>
+        requires below_root { path.now ≢ [] }
+        requires formed { IsTrue (is_property property.now) }
+        ensures done { OnOk result (after_set self.old.layer path.now property.now ≡ Ok self.new.layer) }
+        ensures notices { IfOk result (λ notices. notices ≡ Dirtied path.now (locators_of property.now.name) ∷ []) }
+        ensures refusal { IfErr result (IsRefusal (after_set self.old.layer path.now property.now)) }
+        ensures err { OnErr result (self.new ≡ self.old) }
+        ensures in_step { IsClosed (scene_of self.new.layer) }
+        ensures same_pulls { self.new.pulls ≡ self.old.pulls }
+    {
+        self.layer.is_closed();
+        let locators = locators_of(alloc, &property.name)?;
+        let notices = only(alloc, Notice::Dirtied(path.copy()?, locators))?;
+        self.layer.set(alloc, path, property)?;
+        Ok(notices)
+    }
+
+    /// Takes a property from the prim at a path, if it is there. Notice: dirtied for the name of a used property, and
+    /// none for another name.
+    ///
+    /// `NoPrim` where no prim is there.
+    pub fn clear(&mut self, alloc: Global, path: &Path, name: &Token) -> Result<Notices, EditFault>
+        requires { path.now ≢ [] }
+        ensures done { OnOk result (after_clear self.old.layer path.now name.now ≡ Ok self.new.layer) }
+        ensures notices { IfOk result (λ notices. notices ≡ dirtied path.now (locators_of name.now)) }
+        ensures refusal { IfErr result (IsRefusal (after_clear self.old.layer path.now name.now)) }
+        ensures err { OnErr result (self.new ≡ self.old) }
+        ensures in_step { IsClosed (scene_of self.new.layer) }
+        ensures same_pulls { self.new.pulls ≡ self.old.pulls }
+    {
+        self.layer.is_closed();
+        let notices = dirtied(alloc, path, locators_of(alloc, name)?)?;
+        self.layer.clear(alloc, path, name)?;
+        Ok(notices)
+    }
+
+    /// Takes out the prims at and below a path. Notice: removed.
+    ///
+    /// `NoPrim` where no prim is there.
+    pub fn remove(&mut self, alloc: Global, path: &Path) -> Result<Notices, EditFault>
+        requires { path.now ≢ [] }
+        ensures done { OnOk result (after_remove self.old.layer path.now ≡ Ok self.new.layer) }
+        ensures notices { IfOk result (λ notices. notices ≡ Removed path.now ∷ []) }
+        ensures refusal { IfErr result (IsRefusal (after_remove self.old.layer path.now)) }
+        ensures err { OnErr result (self.new ≡ self.old) }
+        ensures in_step { IsClosed (scene_of self.new.layer) }
+        ensures same_pulls { self.new.pulls ≡ self.old.pulls }
+    {
+        self.layer.is_closed();
+        let notices = only(alloc, Notice::Removed(path.copy()?))?;
+        self.layer.remove(alloc, path)?;
+        Ok(notices)
+    }
+
+    /// Moves the prims at and below a path to another one. Notice: renamed.
+    ///
+    /// In this order: `NoPrim` where no prim is at the first path, `UnderItself` where the second one is at or below
+    /// it, `NoPrim` where no prim is at the second one's parent, `PrimThere` where one is at the second path, and
+    /// `Limit(Depth)` where a moved path would have more than 32 names.
+    pub fn rename(&mut self, alloc: Global, from: &Path, to: &Path) -> Result<Notices, EditFault>
+        requires from { from.now ≢ [] }
+        requires to { to.now ≢ [] }
+        ensures done { OnOk result (after_rename self.old.layer from.now to.now ≡ Ok self.new.layer) }
+        ensures notices { IfOk result (λ notices. notices ≡ Renamed from.now to.now ∷ []) }
+        ensures refusal { IfErr result (IsRefusal (after_rename self.old.layer from.now to.now)) }
+        ensures err { OnErr result (self.new ≡ self.old) }
+        ensures in_step { IsClosed (scene_of self.new.layer) }
+        ensures same_pulls { self.new.pulls ≡ self.old.pulls }
+    {
+        self.layer.is_closed();
+        let notices = only(alloc, Notice::Renamed(from.copy()?, to.copy()?))?;
+        self.layer.rename(alloc, from, to)?;
+        Ok(notices)
+    }
+}
+
+/// The list of this notice.
+fn only(alloc: Global, notice: Notice) -> Result<Notices, AllocError>
+    ensures { IfOk result (λ notices. notices ≡ notice ∷ []) }
+{
+    let mut notices = Notices::new(alloc);
+    notices.push(notice)?;
+    Ok(notices)
+}
+
+/// The notice that values of a prim at these locators may have changed, where there are any.
+fn dirtied(alloc: Global, path: &Path, locators: LocatorSet) -> Result<Notices, AllocError>
+    ensures { IfOk result (λ notices. notices ≡ dirtied path.now locators) }
+{
+    if locators.is_empty() {
+        return Ok(Notices::new(alloc));
+    }
+    only(alloc, Notice::Dirtied(path.copy()?, locators))
+}
