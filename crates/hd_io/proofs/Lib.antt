@@ -1,4 +1,6 @@
 pub mod Appending
+pub mod Cuts
 pub mod Finding
+pub mod Pieces
 pub mod Placing
 pub mod WholeFiles

@@ -1,3 +1,4 @@
+pub mod Acts
 pub mod Causes
 pub mod Failures
 pub mod Files
@@ -7,3 +8,4 @@ pub mod MemoryShelf
 pub mod MemorySink
 pub mod Real
 pub mod Shelf
+pub mod Writing

@@ -8,6 +8,7 @@ mod rack;
 mod real;
 mod shelf;
 mod sink;
+mod writing;
 
 pub use fault::OutsideFault;
 pub use memory::{MemoryRack, MemoryShelf, MemorySink};
@@ -15,6 +16,7 @@ pub use rack::Rack;
 pub use real::{FileRack, FileShelf, OutSink};
 pub use shelf::Shelf;
 pub use sink::Sink;
+pub use writing::{write_file, write_line};
 
 #[cfg(test)]
 mod tests;
