@@ -44,6 +44,14 @@ impl<I> Merging<I> {
         self.inputs.len()
     }
 
+    /// The input with this number. The strongest has number 0.
+    pub fn input(&self, k: usize) -> &I
+        requires { k < length self.now.inputs }
+        ensures { slice_get self.now.inputs k ≡ Some result.now }
+    {
+        &self.inputs[k]
+    }
+
     /// The input with this number, to be changed. The strongest has number 0.
     pub fn input_mut(&mut self, k: usize) -> &mut I
         requires { k < length self.old.inputs }

@@ -133,3 +133,7 @@ container_holds properties = fold_holds empty [] (listed properties) none_held (
 pub container_is : (m : Map) (ps : List Property) → Holds m ps → m ≡ container_of (properties_of ps)
 container_is m ps holds = same_map locators_total locators_tie m (container_of (properties_of ps)) (λ q.
     holds q ∙ authored_same ps (listed (properties_of ps)) q (listed_same ps) ∙ sym (container_holds (properties_of ps) q))
+
+-- what properties author answers as they do
+pub container_authors : (ps : List Property) → Holds (container_of (properties_of ps)) ps
+container_authors ps = λ q. container_holds (properties_of ps) q ∙ sym (authored_same ps (listed (properties_of ps)) q (listed_same ps))

@@ -15,7 +15,7 @@ use Rattle.std.specs.List.Sorted.{IsStrictlySortedBy}
 use Rattle.std.specs.Map.{lookup, keys_of}
 use Rattle.std.specs.Ordering.{nat_cmp, eq_by_cmp, is_eq, ordering_then}
 use Rattle.std.specs.declared.cmp.Ordering.{Ordering}
-use Rattle.std.specs.declared.cmp.Ordering.TheVariants.{Less}
+use Rattle.std.specs.declared.cmp.Ordering.TheVariants.{Less, Equal, Greater}
 use Rattle.std.specs.declared.alloc.AllocError.{AllocError}
 use Rattle.std.specs.declared.alloc.Global.{Global}
 use Rattle.std.specs.declared.vec.Vec.{Vec}
@@ -127,6 +127,8 @@ children_kept m path sound ordered =
 
 -- the places of the depths below this one
 pub record IsGathered (m : BTreeMap Place Held) (path : Names) (depth : ℕ) (places : List Place) : Type 0 where
+  pub ascending : IsStrictlySortedBy place_cmp places
+  pub shallow : AllByRecursion (λ p. p.depth < depth) places
   pub placed : list_all is_placed places ≡ true
   pub listed : (q : Names) → is_listed places (place_of q) ≡ (nat_lt (length q) depth && (is_prefix path q && is_some (tree.get place_cmp m (place_of q))))
 
@@ -143,7 +145,10 @@ not_lt a b h =
     ] refl
 
 pub gathered_none : (m : BTreeMap Place Held) (path : Names) → IsGathered m path (length path) []
+unfolding IsStrictlySortedBy
 gathered_none m path = record {
+  ascending = tt;
+  shallow = tt;
   placed = refl;
   listed = λ q. elim (is_prefix path q) as (λ b. is_prefix path q ≡ b → false ≡ (nat_lt (length q) (length path) && (b && is_some (tree.get place_cmp m (place_of q))))) [
     | true ↦ λ yes. ap (λ b. b && is_some (tree.get place_cmp m (place_of q))) (sym (not_lt (length q) (length path) (prefix_shorter path q yes)))
@@ -179,8 +184,32 @@ lt_next n d =
     above : n ≢ d → d ≤ n → d + 1 ≤ n
     above h le = omega arith
 
-pub gathered_more : (m : BTreeMap Place Held) (path : Names) (depth : ℕ) (places : List Place) → IsSound m → IsGathered m path depth places → IsGathered m path (depth + 1) (places ++ filter (is_at_depth depth path) (tree.keys m))
-gathered_more m path depth places sound h = record {
+fewer_less : (a b : Place) → a.depth < b.depth → place_cmp a b ≡ Less
+fewer_less a b h = ap (λ t. ordering_then (cond t Less (cond (a.depth == b.depth) Equal Greater)) (path_cmp a.path b.path)) (lt-ltb a.depth b.depth h)
+
+above_append : (a : Place) (xs ys : List Place) → AllByRecursion (λ y. place_cmp a y ≡ Less) xs → AllByRecursion (λ y. place_cmp a y ≡ Less) ys → AllByRecursion (λ y. place_cmp a y ≡ Less) (xs ++ ys)
+above_append a [] ys p q = q
+above_append a (x ∷ xs) ys p q = (p.0, above_append a xs ys p.1 q)
+
+deeper_above : (a : Place) (depth : ℕ) (ys : List Place) → a.depth < depth → AllByRecursion (λ y. y.depth ≡ depth) ys → AllByRecursion (λ y. place_cmp a y ≡ Less) ys
+deeper_above a depth [] p q = tt
+deeper_above a depth (y ∷ ys) p q = (fewer_less a y (subst (λ (n : ℕ). a.depth < n) (sym q.0) p), deeper_above a depth ys p q.1)
+
+-- places that ascend go on to ascend with deeper ones
+deeper_ascend : (depth : ℕ) (xs ys : List Place) → IsStrictlySortedBy place_cmp xs → AllByRecursion (λ x. x.depth < depth) xs → IsStrictlySortedBy place_cmp ys → AllByRecursion (λ y. y.depth ≡ depth) ys → IsStrictlySortedBy place_cmp (xs ++ ys)
+unfolding IsStrictlySortedBy
+deeper_ascend depth [] ys p l q d = q
+deeper_ascend depth (x ∷ xs) ys p l q d = (above_append x xs ys p.0 (deeper_above x depth ys l.0 d), deeper_ascend depth xs ys p.1 l.1 q d)
+
+still_shallow : (depth : ℕ) (xs ys : List Place) → AllByRecursion (λ x. x.depth < depth) xs → AllByRecursion (λ y. y.depth ≡ depth) ys → AllByRecursion (λ p. p.depth < depth + 1) (xs ++ ys)
+still_shallow depth [] [] l d = tt
+still_shallow depth [] (y ∷ ys) l d = (omega (arith, d.0), still_shallow depth [] ys l d.1)
+still_shallow depth (x ∷ xs) ys l d = (omega (arith, l.0), still_shallow depth xs ys l.1 d)
+
+pub gathered_more : (m : BTreeMap Place Held) (path : Names) (depth : ℕ) (places : List Place) → IsSound m → tree.IsOrdered place_cmp m → IsGathered m path depth places → IsGathered m path (depth + 1) (places ++ filter (is_at_depth depth path) (tree.keys m))
+gathered_more m path depth places sound ordered h = record {
+  ascending = deeper_ascend depth places (filter (is_at_depth depth path) (tree.keys m)) h.ascending h.shallow (IsStrictlySortedBy-filter place_cmp (is_at_depth depth path) (tree.keys m) ordered) (deep_pass depth path (tree.keys m));
+  shallow = still_shallow depth places (filter (is_at_depth depth path) (tree.keys m)) h.shallow (deep_pass depth path (tree.keys m));
   placed = all_append is_placed places (filter (is_at_depth depth path) (tree.keys m)) h.placed (placed_all (filter (is_at_depth depth path) (tree.keys m)) (by_recursion (tree.keys m) (is_at_depth depth path) (keys_placed m sound)));
   listed = λ q.
       list_any-append (eq_by_cmp place_cmp (place_of q)) places (filter (is_at_depth depth path) (tree.keys m))
@@ -202,6 +231,7 @@ gathered_more m path depth places sound h = record {
 -- no path has more names than the limit
 pub gathered_all : (m : BTreeMap Place Held) (path : Names) (places : List Place) → IsIndex m → IsGathered m path 33 places → IsSubtree m path places
 gathered_all m path places index h = record {
+  ascending = h.ascending;
   placed = h.placed;
   listed = λ p.
       h.listed p

@@ -5,6 +5,8 @@ pub mod Listing
 pub mod PathNames
 pub mod Depths
 pub mod Gathering
+pub mod PathsFrom
+pub mod Shaped
 pub mod Closed
 pub mod Spelled
 pub mod Moving

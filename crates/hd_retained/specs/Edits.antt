@@ -3,12 +3,15 @@ use Rattle.std.specs.Prelude.{◌≡◌, ◌⊎◌, ℕ, ◌-◌, Bool, not, ◌
 use Rattle.std.specs.List.{list_any}
 use Rattle.std.specs.Coded.{Coded, code_by, coded×, coded_ℕ}
 use Rattle.std.specs.FinMap.{get, contains_key, insert, remove, retain_keys, len, keys, entries, empty, from_entries}
+use Rattle.hd_usda.specs.declared.edit.Edit.{Edit}
+use Rattle.hd_usda.specs.declared.edit.Edit.TheVariants.{Define, Set, Clear, Remove, Rename}
 use Rattle.hd_usda.specs.declared.limits.Which.TheVariants.{Prims, Depth}
 use Rattle.hd_usda.specs.declared.spec.Property.{Property}
 use Rattle.hd_usda.specs.Limits.{limit_of}
 use Rattle.hd_value.specs.Locators.{is_prefix}
 use Rattle.hd_scene.specs.declared.notice.Notice.{Notice}
-use Rattle.hd_scene.specs.declared.notice.Notice.TheVariants.{Dirtied}
+use Rattle.hd_schema.specs.Places.{locators_of}
+use Rattle.hd_scene.specs.declared.notice.Notice.TheVariants.{Added, Removed, Dirtied, Renamed}
 use Rattle.hd_retained.specs.declared.fault.EditFault.{EditFault}
 use Rattle.hd_retained.specs.declared.fault.EditFault.TheVariants.{NoPrim, PrimThere, UnderItself, Limit, NoMemory}
 use Rattle.hd_retained.specs.Layers.{LayerPrim, Layer, layer_code}
@@ -83,11 +86,33 @@ after_rename layer from to =
     else (if list_any (is_moved_too_deep from to) (keys layer) then Err (Limit Depth)
     else Ok (from_entries (map (moved_prim from to) (entries layer)))))))
 
+-- the property has the value; one that is not used needs its prim, and changes nothing
+abbrev pub after_set_if_used : Layer → List (List ℕ) → Option Property → Result Layer EditFault
+after_set_if_used layer path (Some property) = after_set layer path property
+after_set_if_used layer path None = if contains_key layer path then Ok layer else Err NoPrim
+
+-- the layer after an edit, or the refusal
+abbrev pub edited : Layer → Edit → Result Layer EditFault
+edited layer (Define kind path) = after_define layer kind path
+edited layer (Set path property) = after_set_if_used layer path property
+edited layer (Clear path name) = after_clear layer path name
+edited layer (Remove path) = after_remove layer path
+edited layer (Rename from to) = after_rename layer from to
+
 -- the edit is refused so, or memory ran out
-abbrev pub IsRefusal : Result Layer EditFault → EditFault → Type 0
+abbrev pub IsRefusal : {T : Type 0} → Result T EditFault → EditFault → Type 0
 IsRefusal expected fault = (fault ≡ NoMemory) ⊎ (expected ≡ Err fault)
 
 -- that values at these locators may have changed, where there are any
 abbrev pub dirtied : List (List ℕ) → List (List (List ℕ)) → List Notice
 dirtied path [] = []
 dirtied path (at ∷ more) = Dirtied path (at ∷ more) ∷ []
+
+-- the notices of an edit that is done
+abbrev pub notices_of_edit : Edit → List Notice
+notices_of_edit (Define kind path) = Added path kind ∷ []
+notices_of_edit (Set path (Some property)) = Dirtied path (locators_of property.name) ∷ []
+notices_of_edit (Set path None) = []
+notices_of_edit (Clear path name) = dirtied path (locators_of name)
+notices_of_edit (Remove path) = Removed path ∷ []
+notices_of_edit (Rename from to) = Renamed from to ∷ []

@@ -1,6 +1,7 @@
 -- How an index keeps a layer: prims by their depth and path, each with its values.
 use Rattle.std.specs.Prelude.{◌≡◌, ℕ, Bool, true, false, ◌&&◌, ◌==◌, List, [], ◌∷◌, length, take, map, cond, Option, Some, None, is_some, IsTrue, IsSome}
 use Rattle.std.specs.List.{list_all, list_any}
+use Rattle.std.specs.List.Sorted.{IsStrictlySortedBy}
 use Rattle.std.specs.Ordering.{nat_cmp, ordering_then, eq_by_cmp}
 use Rattle.std.specs.declared.cmp.Ordering.{Ordering}
 use Rattle.std.specs.FinMap.{get, contains_key, insert, from_entries}
@@ -59,8 +60,9 @@ pub record IsIndex (prims : BTreeMap Place Held) : Type 0 where
 abbrev pub is_listed : List Place → Place → Bool
 is_listed places q = list_any (eq_by_cmp place_cmp q) places
 
--- the places are those of the prims at and below the path
+-- the places are those of the prims at and below the path, each once and in order
 pub record IsSubtree (prims : BTreeMap Place Held) (path : List (List ℕ)) (places : List Place) : Type 0 where
+  pub ascending : IsStrictlySortedBy place_cmp places
   pub placed : list_all is_placed places ≡ true
   pub listed : (p : List (List ℕ)) → is_listed places (place_of p) ≡ (is_prefix path p && is_some (tree.get place_cmp prims (place_of p)))
 

@@ -1,15 +1,19 @@
 -- A layer is a finite map from paths to prims. A prim has a kind, and values by the names of its properties.
-use Rattle.std.specs.Prelude.{ℕ, List, map, refl}
+use Rattle.std.specs.Prelude.{◌↔◌, ℕ, List, map, length, Option, IsSome, IsTrue, Contains, refl}
 use Rattle.std.specs.List.{fold}
+use Rattle.std.specs.List.Sorted.{IsStrictlySortedBy}
+use Rattle.std.specs.Option.{option_map}
 use Rattle.std.specs.Coded.{Coded, code_by, coded×, coded_ℕ, coded_list}
 use Rattle.std.specs.Cmp.Lexicographic.{slice_cmp}
-use Rattle.std.specs.Ordering.{nat_cmp}
-use Rattle.std.specs.FinMap.{FinMap, code, entries, empty, from_entries}
+use Rattle.std.specs.Ordering.{nat_cmp, ordering_then}
+use Rattle.std.specs.declared.cmp.Ordering.{Ordering}
+use Rattle.std.specs.FinMap.{FinMap, code, get, entries, empty, from_entries}
 use Rattle.hd_usda.specs.declared.spec.RawValue.{RawValue}
 use Rattle.hd_usda.specs.contracts.spec.RawValue as raw
 use Rattle.hd_usda.specs.declared.spec.Property.{Property}
 use Rattle.hd_usda.specs.declared.spec.PrimSpec.{PrimSpec}
 use Rattle.hd_usda.specs.declared.spec.LayerSpec.{LayerSpec}
+use Rattle.hd_value.specs.Locators.{is_prefix}
 use Rattle.hd_value.specs.Maps.{Map}
 use Rattle.hd_schema.specs.Authored.{with_property}
 use Rattle.hd_scene.specs.declared.prims.Entry.{Entry}
@@ -72,3 +76,16 @@ entry_at_path e = (e.0, entry_of e.1)
 -- the scene of a layer has a prim wherever the layer has one
 abbrev pub scene_of : Layer → Scene
 scene_of layer = from_entries (map entry_at_path (entries layer))
+
+-- the kind of the prim at a path, if there is one
+abbrev pub kind_in : Layer → List (List ℕ) → Option (List ℕ)
+kind_in layer path = option_map (λ (p : LayerPrim). p.kind) (get layer path)
+
+-- fewer names first, and paths of as many names in their order
+abbrev pub depth_cmp : List (List ℕ) → List (List ℕ) → Ordering
+depth_cmp a b = ordering_then (nat_cmp (length a) (length b)) (path_cmp a b)
+
+-- the paths of the prims at and below a path, each once and in that order
+pub record ArePathsFrom (layer : Layer) (path : List (List ℕ)) (paths : List (List (List ℕ))) : Type 0 where
+  pub ascending : IsStrictlySortedBy depth_cmp paths
+  pub there : (q : List (List ℕ)) → Contains paths q ↔ (IsTrue (is_prefix path q) × IsSome (get layer q))

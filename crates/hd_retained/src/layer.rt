@@ -1,10 +1,11 @@
 //! A layer that is edited.
 
-ghost use Rattle.std.specs.Prelude.{◌≡◌, ◌≢◌, [], Ok, OnOk, OnErr, IfOk, IfErr, IsTrue};
+ghost use Rattle.std.specs.Prelude.{◌≡◌, ◌≢◌, [], Ok, OnOk, OnErr, IfOk, IfErr, IsTrue, option_copied};
 ghost use Rattle.std.specs.FinMap.{get};
 ghost use Rattle.hd_usda.specs.WellFormed.{is_property, is_layer};
-ghost use Rattle.hd_scene.specs.Scenes.{prim_of, children_of, IsClosed};
-ghost use Rattle.hd_retained.specs.Layers.{layer_of, scene_of};
+ghost use Rattle.hd_value.specs.Shapes.{is_authored};
+ghost use Rattle.hd_scene.specs.Scenes.{prim_of, children_of, IsClosed, IsShapedBy};
+ghost use Rattle.hd_retained.specs.Layers.{layer_of, scene_of, kind_in, ArePathsFrom};
 ghost use Rattle.hd_retained.specs.Edits.{after_define, after_set, after_clear, after_remove, after_rename, IsRefusal};
 
 use crate::fault::EditFault;
@@ -63,9 +64,30 @@ impl Layer {
         List::of(alloc, prims::children(alloc, &self.prims, path)?)
     }
 
+    /// The kind of the prim at a path, if there is one.
+    pub(crate) fn kind(&self, path: &Path) -> Result<Option<&Token>, AllocError>
+        ensures { IfOk result (λ kind. option_copied kind ≡ kind_in self.now path.now) }
+    {
+        prims::kind(&self.prims, path)
+    }
+
+    /// The paths of the prims at and below a path, by their depth.
+    pub(crate) fn paths_from(&self, alloc: Global, path: &Path) -> Result<Vec<Path>, AllocError>
+        ensures { IfOk result (λ paths. ArePathsFrom self.now path.now paths.items) }
+    {
+        prims::paths_from(alloc, &self.prims, path)
+    }
+
     /// Each prim has its parent: a fact for proofs, which costs nothing.
     pub(crate) fn is_closed(&self)
         ensures { IsClosed (scene_of self.now) }
+    {
+        let _ = &self.prims;
+    }
+
+    /// Each value is one that a text can author: a fact for proofs, which costs nothing.
+    pub(crate) fn is_shaped(&self)
+        ensures { IsShapedBy is_authored (scene_of self.now) }
     {
         let _ = &self.prims;
     }

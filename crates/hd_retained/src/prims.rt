@@ -9,7 +9,7 @@ ghost use Rattle.hd_value.specs.Locators.{is_prefix};
 ghost use Rattle.hd_scene.specs.Scenes as scene;
 ghost use Rattle.hd_scene.specs.Scenes.{child_name, children_of};
 ghost use Rattle.hd_usda.specs.WellFormed.{is_layer};
-ghost use Rattle.hd_retained.specs.Layers.{layer_of, scene_of};
+ghost use Rattle.hd_retained.specs.Layers.{layer_of, scene_of, kind_in, ArePathsFrom};
 ghost use Rattle.hd_retained.specs.Edits.{has_parent};
 ghost use Rattle.hd_retained.specs.Indexed.{place_cmp, is_at_depth, prim_of, layer_in, IsHeld, IsSound, IsIndex, IsSubtree, IsWithout};
 
@@ -34,6 +34,20 @@ pub(crate) fn find<'a>(
 {
     let place = Place::of(path)?;
     Ok(prims.get(&place))
+}
+
+/// The kind of the prim at a path, if there is one.
+pub(crate) fn kind<'a>(
+    prims: &'a BTreeMap<Place, Held>,
+    path: &Path,
+) -> Result<Option<&'a Token>, AllocError>
+    requires { IsSound prims.now }
+    ensures { IfOk result (λ kind. option_copied kind ≡ kind_in (layer_in prims.now) path.now) }
+{
+    match find(prims, path)? {
+        Some(held) => Ok(Some(&held.kind)),
+        None => Ok(None),
+    }
 }
 
 /// The prim at a path, as the scene has it.
@@ -158,6 +172,23 @@ pub(crate) fn subtree(
         add_depth(prims, depth, path, &mut places)?;
     }
     Ok(places)
+}
+
+/// The paths of the prims at and below a path, by their depth.
+pub(crate) fn paths_from(
+    alloc: Global,
+    prims: &BTreeMap<Place, Held>,
+    path: &Path,
+) -> Result<Vec<Path>, AllocError>
+    requires { IsIndex prims.now }
+    ensures { IfOk result (λ paths. ArePathsFrom (layer_in prims.now) path.now paths.items) }
+{
+    let places = subtree(alloc, prims, path)?;
+    let mut paths = Vec::with_capacity(alloc, places.len())?;
+    for place in places {
+        paths.push(place.path)?;
+    }
+    Ok(paths)
 }
 
 /// Takes out the prims at these places.

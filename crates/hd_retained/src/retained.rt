@@ -1,12 +1,15 @@
 //! A layer as a scene index, and its edits.
 
-ghost use Rattle.std.specs.Prelude.{◌≡◌, ◌≢◌, [], ◌∷◌, Ok, OnOk, OnErr, IfOk, IfErr, IsTrue};
+ghost use Rattle.std.specs.Prelude.{◌≡◌, ◌≢◌, [], ◌∷◌, None, Ok, OnOk, OnErr, IfOk, IfErr, IsTrue, option_copied};
+ghost use Rattle.hd_usda.specs.Edits.{is_edit, may_be_set};
+ghost use Rattle.hd_usda.specs.declared.edit.Edit.TheVariants.{Set};
 ghost use Rattle.hd_usda.specs.WellFormed.{is_property, is_layer};
 ghost use Rattle.hd_schema.specs.Places.{locators_of};
 ghost use Rattle.hd_scene.specs.declared.notice.Notice.TheVariants.{Added, Removed, Dirtied, Renamed};
-ghost use Rattle.hd_scene.specs.Scenes.{IsClosed};
-ghost use Rattle.hd_retained.specs.Layers.{layer_of, scene_of};
-ghost use Rattle.hd_retained.specs.Edits.{after_define, after_set, after_clear, after_remove, after_rename, dirtied, IsRefusal};
+ghost use Rattle.hd_value.specs.Shapes.{is_authored};
+ghost use Rattle.hd_scene.specs.Scenes.{IsClosed, IsShapedBy};
+ghost use Rattle.hd_retained.specs.Layers.{layer_of, scene_of, kind_in, ArePathsFrom};
+ghost use Rattle.hd_retained.specs.Edits.{after_define, after_set, after_set_if_used, after_clear, after_remove, after_rename, edited, dirtied, notices_of_edit, IsRefusal};
 
 use crate::fault::EditFault;
 use crate::layer::Layer;
@@ -14,7 +17,7 @@ use hd_num::List;
 use hd_path::{Path, Token};
 use hd_scene::{Notice, Notices, Prim, SceneIndex};
 use hd_schema::locators_of;
-use hd_usda::{LayerSpec, Property};
+use hd_usda::{Edit, LayerSpec, Property};
 use hd_value::LocatorSet;
 use std::alloc::{AllocError, Global};
 use std::marker::Model;
@@ -84,6 +87,84 @@ impl Retained {
         ensures { IsClosed (scene_of self.now.layer) }
     {
         self.layer.is_closed();
+    }
+
+    /// Each value of the scene is one that a text can author: a fact for proofs, which costs nothing.
+    pub fn is_shaped(&self)
+        ensures { IsShapedBy is_authored (scene_of self.now.layer) }
+    {
+        self.layer.is_shaped();
+    }
+
+    /// The kind of the prim at a path, if there is one. The call fails for want of memory alone.
+    pub fn kind(&self, path: &Path) -> Result<Option<&Token>, AllocError>
+        ensures { IfOk result (λ kind. option_copied kind ≡ kind_in self.now.layer path.now) }
+    {
+        self.layer.kind(path)
+    }
+
+    /// The paths of the prims at and below a path, those with fewer names first, and else in their order. The call
+    /// fails for want of memory alone.
+    pub fn paths_from(&self, alloc: Global, path: &Path) -> Result<Vec<Path>, AllocError>
+        ensures { IfOk result (λ paths. ArePathsFrom self.now.layer path.now paths.items) }
+    {
+        self.layer.paths_from(alloc, path)
+    }
+
+    /// Does an edit: what `define`, `set`, `clear`, `remove` or `rename` does, with their notices and refusals.
+    ///
+    /// To set a property that is not used changes nothing and has no notice. `NoPrim` where no prim is there.
+    pub fn edit(&mut self, alloc: Global, edit: &Edit) -> Result<Notices, EditFault>
+        requires formed { IsTrue (is_edit edit.now) }
+        ensures done { OnOk result (edited self.old.layer edit.now ≡ Ok self.new.layer) }
+        ensures notices { IfOk result (λ notices. notices ≡ notices_of_edit edit.now) }
+        ensures refusal { IfErr result (IsRefusal (edited self.old.layer edit.now)) }
+        ensures err { OnErr result (self.new ≡ self.old) }
+        ensures in_step { IsClosed (scene_of self.new.layer) }
+        ensures same_pulls { self.new.pulls ≡ self.old.pulls }
+    {
+        match edit {
+            Edit::Define { kind, path } => self.define(alloc, kind, path),
+            Edit::Set { path, property } => self.set_if_used(alloc, path, property),
+            Edit::Clear { path, name } => self.clear(alloc, path, name),
+            Edit::Remove { path } => self.remove(alloc, path),
+            Edit::Rename { from, to } => self.rename(alloc, from, to),
+        }
+    }
+
+    /// Gives a property of the prim at a path a value. Without a property only the prim is looked for.
+    fn set_if_used(
+        &mut self,
+        alloc: Global,
+        path: &Path,
+        property: &Option<Property>,
+    ) -> Result<Notices, EditFault>
+        requires below_root { path.now ≢ [] }
+        requires formed { IsTrue (may_be_set property.now) }
+        ensures done { OnOk result (after_set_if_used self.old.layer path.now property.now ≡ Ok self.new.layer) }
+        ensures notices { IfOk result (λ notices. notices ≡ notices_of_edit (Set path.now property.now)) }
+        ensures refusal { IfErr result (IsRefusal (after_set_if_used self.old.layer path.now property.now)) }
+        ensures err { OnErr result (self.new ≡ self.old) }
+        ensures in_step { IsClosed (scene_of self.new.layer) }
+        ensures same_pulls { self.new.pulls ≡ self.old.pulls }
+    {
+        self.layer.is_closed();
+        match property {
+            Some(property) => self.set(alloc, path, property),
+            None => self.look_for(alloc, path),
+        }
+    }
+
+    /// No notice, where a prim is at the path.
+    fn look_for(&self, alloc: Global, path: &Path) -> Result<Notices, EditFault>
+        ensures done { OnOk result (after_set_if_used self.now.layer path.now None ≡ Ok self.now.layer) }
+        ensures notices { IfOk result (λ notices. notices ≡ []) }
+        ensures refusal { IfErr result (IsRefusal (after_set_if_used self.now.layer path.now None)) }
+    {
+        if self.kind(path)?.is_none() {
+            return Err(EditFault::NoPrim);
+        }
+        Ok(Notices::new(alloc))
     }
 
     /// Puts a prim of this kind at a path, without properties. What is below it stays. Notice: added.

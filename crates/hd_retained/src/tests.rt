@@ -1,12 +1,13 @@
 //! Worked examples of edits.
 
 ghost use Rattle.std.specs.Prelude.{◌≡◌, ◌≢◌, [], IfOk, IsTrue};
+ghost use Rattle.hd_usda.specs.Edits.{is_below_root};
 ghost use Rattle.hd_usda.specs.WellFormed.{is_property};
 
 use crate::{EditFault, Retained};
 use hd_path::{Path, Token};
 use hd_scene::{Notice, Notices, SceneIndex};
-use hd_usda::{Property, Which, read_layer, read_property};
+use hd_usda::{Edit, Property, Which, read_layer, read_property};
 use hd_value::{Locator, Source};
 use std::alloc::{AllocError, Global};
 use std::test::Fail;
@@ -17,7 +18,8 @@ fn shared<T: Send + Sync>(value: T) -> T {
 
 /// A path other than the root.
 fn path(alloc: Global, text: &str) -> Result<Path, AllocError>
-    ensures { IfOk result (λ path. path ≢ []) }
+    ensures names { IfOk result (λ path. path ≢ []) }
+    ensures below_root { IfOk result (λ path. IsTrue (is_below_root path)) }
 {
     match Path::parse(alloc, text) {
         Ok(path) => {
@@ -116,6 +118,95 @@ fn remove(index: &mut Retained, alloc: Global, at: &str) -> Result<Notices, Edit
 
 fn rename(index: &mut Retained, alloc: Global, from: &str, to: &str) -> Result<Notices, EditFault> {
     index.rename(alloc, &path(alloc, from)?, &path(alloc, to)?)
+}
+
+/// The kind of a prim as its call answers it, and `-` where there is none.
+fn kind_at(index: &Retained, alloc: Global, text: &str) -> Result<Token, AllocError> {
+    match index.kind(&path(alloc, text)?)? {
+        Some(kind) => kind.copy(),
+        None => Token::new(alloc, "-"),
+    }
+}
+
+/// The paths at and below a path, each behind a blank.
+fn paths_from(index: &Retained, alloc: Global, text: &str) -> Result<String, AllocError> {
+    let start = match Path::parse(alloc, text) {
+        Ok(path) => path,
+        Err(_) => return Err(AllocError),
+    };
+    let mut all = String::new(alloc);
+    for path in index.paths_from(alloc, &start)? {
+        all.push(' ')?;
+        all.push_str(path.as_text())?;
+    }
+    Ok(all)
+}
+
+fn edit_define(
+    index: &mut Retained,
+    alloc: Global,
+    kind: &str,
+    at: &str,
+) -> Result<Notices, EditFault> {
+    let edit = Edit::Define {
+        kind: Token::new(alloc, kind)?,
+        path: path(alloc, at)?,
+    };
+    index.edit(alloc, &edit)
+}
+
+fn edit_set(
+    index: &mut Retained,
+    alloc: Global,
+    at: &str,
+    text: &str,
+) -> Result<Notices, EditFault> {
+    let edit = Edit::Set {
+        path: path(alloc, at)?,
+        property: Some(property(alloc, text)?),
+    };
+    index.edit(alloc, &edit)
+}
+
+fn edit_set_unused(index: &mut Retained, alloc: Global, at: &str) -> Result<Notices, EditFault> {
+    let edit = Edit::Set {
+        path: path(alloc, at)?,
+        property: None,
+    };
+    index.edit(alloc, &edit)
+}
+
+fn edit_clear(
+    index: &mut Retained,
+    alloc: Global,
+    at: &str,
+    name: &str,
+) -> Result<Notices, EditFault> {
+    let edit = Edit::Clear {
+        path: path(alloc, at)?,
+        name: Token::new(alloc, name)?,
+    };
+    index.edit(alloc, &edit)
+}
+
+fn edit_remove(index: &mut Retained, alloc: Global, at: &str) -> Result<Notices, EditFault> {
+    let edit = Edit::Remove {
+        path: path(alloc, at)?,
+    };
+    index.edit(alloc, &edit)
+}
+
+fn edit_rename(
+    index: &mut Retained,
+    alloc: Global,
+    from: &str,
+    to: &str,
+) -> Result<Notices, EditFault> {
+    let edit = Edit::Rename {
+        from: path(alloc, from)?,
+        to: path(alloc, to)?,
+    };
+    index.edit(alloc, &edit)
 }
 
 fn is_refused(answer: Result<Notices, EditFault>, want: EditFault) -> bool {
@@ -312,5 +403,90 @@ fn a_path_has_as_many_names_as_its_limit(rt: HostRuntime) -> Result<(), Fail> {
     assert_eq!(rt; names_below(&mut index, alloc, "/")?.as_str(), " A T");
     assert!(rt; rename(&mut index, alloc, "/T", repeated(alloc, 29, "/X")?.as_str()).is_ok());
     assert_eq!(rt; names_below(&mut index, alloc, "/")?.as_str(), " A");
+    Ok(())
+}
+
+#[test]
+fn an_edit_is_done_by_its_form(rt: HostRuntime) -> Result<(), Fail> {
+    let alloc = rt.alloc();
+    let mut index = sample(alloc)?;
+    let added = edit_define(&mut index, alloc, "Mesh", "/A")?;
+    assert!(rt; says(&added, "added", "/A", "Mesh"));
+    let shown = edit_set(&mut index, alloc, "/T", "token visibility = \"inherited\"")?;
+    assert!(rt; is_dirtied(alloc, &shown, "visibility")?);
+    let cleared = edit_clear(&mut index, alloc, "/T", "purpose")?;
+    assert!(rt; is_dirtied(alloc, &cleared, "purpose")?);
+    let removed = edit_remove(&mut index, alloc, "/S")?;
+    assert!(rt; says(&removed, "removed", "/S", ""));
+    let renamed = edit_rename(&mut index, alloc, "/T", "/A/U")?;
+    assert!(rt; says(&renamed, "renamed", "/T", "/A/U"));
+    assert_eq!(rt;
+        paths_from(&index, alloc, "/")?.as_str(),
+        " /A /A/U /A/U/A /A/U/B"
+    );
+    assert!(rt; has_value(&mut index, alloc, "/A/U", "visibility")?);
+    assert!(rt; !has_value(&mut index, alloc, "/A/U", "purpose")?);
+    Ok(())
+}
+
+#[test]
+fn a_property_that_is_not_used_needs_its_prim(rt: HostRuntime) -> Result<(), Fail> {
+    let alloc = rt.alloc();
+    let mut index = sample(alloc)?;
+    assert!(rt; edit_set_unused(&mut index, alloc, "/T")?.items().is_empty());
+    assert!(rt; has_value(&mut index, alloc, "/T", "purpose")?);
+    assert!(rt; is_refused(edit_set_unused(&mut index, alloc, "/X"), EditFault::NoPrim));
+    assert_eq!(rt; kind_at(&index, alloc, "/X")?.text(), "-");
+    Ok(())
+}
+
+#[test]
+fn an_edit_is_refused_as_its_call(rt: HostRuntime) -> Result<(), Fail> {
+    let alloc = rt.alloc();
+    let mut index = sample(alloc)?;
+    assert!(rt;
+        is_refused(
+            edit_define(&mut index, alloc, "Mesh", "/X/Y"),
+            EditFault::NoPrim
+        )
+    );
+    assert!(rt;
+        is_refused(
+            edit_clear(&mut index, alloc, "/X", "purpose"),
+            EditFault::NoPrim
+        )
+    );
+    assert!(rt; is_refused(edit_remove(&mut index, alloc, "/X"), EditFault::NoPrim));
+    assert!(rt;
+        is_refused(
+            edit_rename(&mut index, alloc, "/T", "/S"),
+            EditFault::PrimThere
+        )
+    );
+    let shown = edit_set(&mut index, alloc, "/X", "token visibility = \"inherited\"");
+    assert!(rt; is_refused(shown, EditFault::NoPrim));
+    assert_eq!(rt;
+        paths_from(&index, alloc, "/")?.as_str(),
+        " /S /T /T/A /T/B"
+    );
+    Ok(())
+}
+
+#[test]
+fn paths_come_by_their_depth_and_kinds_by_their_paths(rt: HostRuntime) -> Result<(), Fail> {
+    let alloc = rt.alloc();
+    let index = sample(alloc)?;
+    for (start, want) in [
+        ("/", " /S /T /T/A /T/B"),
+        ("/T", " /T /T/A /T/B"),
+        ("/T/B", " /T/B"),
+        ("/T/B/C", ""),
+        ("/U", ""),
+    ] {
+        assert_eq!(rt; paths_from(&index, alloc, start)?.as_str(), want);
+    }
+    for (at, want) in [("/T", "Xform"), ("/T/B", "Mesh"), ("/T/A", ""), ("/U", "-")] {
+        assert_eq!(rt; kind_at(&index, alloc, at)?.text(), want);
+    }
     Ok(())
 }

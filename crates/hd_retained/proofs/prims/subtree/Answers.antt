@@ -13,7 +13,7 @@ pub loop-depth-preserved : goal.loop-depth-preserved
 loop-depth-preserved c =
     let m = c.args.prims.now in
     let path = c.args.path.now in
-    subst (IsGathered m path (c.loop-depth.depth + 1)) (sym c.in_ok-add_depth.ensures.added) (gathered_more m path c.loop-depth.depth c.loop-depth.places.items c.requires.sound c.loop-depth.invariant)
+    subst (IsGathered m path (c.loop-depth.depth + 1)) (sym c.in_ok-add_depth.ensures.added) (gathered_more m path c.loop-depth.depth c.loop-depth.places.items c.requires.sound c.in_ok-add_depth.ensures.ordered c.loop-depth.invariant)
 
 pub returns : goal.returns
 returns c =
