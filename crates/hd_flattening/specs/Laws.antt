@@ -1,0 +1,46 @@
+-- What follows from the definitions.
+use Rattle.std.specs.Prelude.{◌≡◌, ◌≢◌, ℕ, true, false, List, [], ◌∷◌, ◌++◌, Option, Some, None}
+use Rattle.hd_num.specs.Matrices.{Rows, product, bounded}
+use Rattle.hd_value.specs.Maps.{Map}
+use Rattle.hd_value.specs.Shapes.{is_instanced, is_flattened}
+use Rattle.hd_scene.specs.Scenes.{Scene, IsClosed, IsShapedBy}
+use Rattle.hd_flattening.specs.Local.{local, is_reset}
+use Rattle.hd_flattening.specs.Flat.{values_at, ancestors, flat_matrix, is_invisible, is_visible}
+use Rattle.hd_flattening.specs.Flattened.{flattened}
+
+-- the values of a path's prim and of its ancestors
+abbrev pub lineage : Scene → List (List ℕ) → List Map
+lineage scene path = values_at scene path ∷ ancestors scene path
+
+abbrev pub flat_matrix_at : Scene → List (List ℕ) → Option Rows
+flat_matrix_at scene path = flat_matrix (lineage scene path)
+
+-- a child is moved by its local matrix and then by its parent's flat one
+abbrev pub MatrixOfChild : Type 0
+MatrixOfChild =
+    (scene : Scene) (path : List (List ℕ)) (name : List ℕ) (own above : Rows) → path ≢ [] → is_reset (values_at scene (path ++ name ∷ [])) ≡ false
+    → local (values_at scene (path ++ name ∷ [])) ≡ Some own → flat_matrix_at scene path ≡ Some above → flat_matrix_at scene (path ++ name ∷ []) ≡ bounded (product own above)
+
+-- below a matrix that is out of range all are, but for what is reset
+abbrev pub MatrixOutOfRange : Type 0
+MatrixOutOfRange =
+    (scene : Scene) (path : List (List ℕ)) (name : List ℕ) → path ≢ [] → is_reset (values_at scene (path ++ name ∷ [])) ≡ false
+    → flat_matrix_at scene path ≡ None → flat_matrix_at scene (path ++ name ∷ []) ≡ None
+
+-- a root prim and a prim that is reset have their local matrix
+abbrev pub MatrixOfRoot : Type 0
+MatrixOfRoot = (scene : Scene) (name : List ℕ) → flat_matrix_at scene (name ∷ []) ≡ local (values_at scene (name ∷ []))
+
+abbrev pub MatrixOfReset : Type 0
+MatrixOfReset = (scene : Scene) (path : List (List ℕ)) → is_reset (values_at scene path) ≡ true → flat_matrix_at scene path ≡ local (values_at scene path)
+
+-- an invisible prim hides itself and all below it
+abbrev pub InvisibleHides : Type 0
+InvisibleHides = (scene : Scene) (path rest : List (List ℕ)) → path ≢ [] → is_invisible (values_at scene path) ≡ true → is_visible (lineage scene (path ++ rest)) ≡ false
+
+-- a flat scene is closed where the scene is, and has the values that flattening gives
+abbrev pub FlattenedIsClosed : Type 0
+FlattenedIsClosed = (scene : Scene) → IsClosed scene → IsClosed (flattened scene)
+
+abbrev pub FlattenedIsShaped : Type 0
+FlattenedIsShaped = (scene : Scene) → IsShapedBy is_instanced scene → IsShapedBy is_flattened (flattened scene)

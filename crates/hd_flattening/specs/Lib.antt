@@ -1,0 +1,9 @@
+pub mod Filters
+pub mod Values
+pub mod Local
+pub mod Flat
+pub mod Flattened
+pub mod Scenes
+pub mod Inheriting
+pub mod Places
+pub mod Laws

@@ -1,0 +1,67 @@
+-- The values of a prim that flattening reads.
+use Rattle.std.specs.Prelude.{ℕ, Bool, false, List, [], ◌∷◌, Option, Some, None, codes}
+use Rattle.std.specs.FinMap.{get}
+use Rattle.hd_num.specs.declared.op.Op as ops
+use Rattle.hd_num.specs.declared.vector.Rgb.{Rgb}
+use Rattle.hd_value.specs.declared.value.Value.{Value}
+use Rattle.hd_value.specs.declared.value.Value.TheVariants.{Token, Tokens, Colors, Paths, Op, Flag}
+use Rattle.hd_value.specs.Maps.{Map}
+
+-- the tokens of a value, and none where there is another value, or nothing
+abbrev pub tokens_of : Option Value → List (List ℕ)
+tokens_of (Some (Tokens ts)) = ts
+tokens_of _ = []
+
+abbrev pub token_of : Option Value → Option (List ℕ)
+token_of (Some (Token t)) = Some t
+token_of _ = None
+
+abbrev pub paths_of : Option Value → Option (List (List (List ℕ)))
+paths_of (Some (Paths ps)) = Some ps
+paths_of _ = None
+
+abbrev pub colors_of : Option Value → List Rgb
+colors_of (Some (Colors cs)) = cs
+colors_of _ = []
+
+abbrev pub op_of : Option Value → Option ops.Op
+op_of (Some (Op op)) = Some op
+op_of _ = None
+
+-- whether there is a flag that is set
+abbrev pub is_set : Option Value → Bool
+is_set (Some (Flag b)) = b
+is_set _ = false
+
+-- where the values stand
+abbrev pub order_at : List (List ℕ)
+order_at = codes "xform" ∷ codes "order" ∷ []
+
+abbrev pub reset_at : List (List ℕ)
+reset_at = codes "xform" ∷ codes "reset" ∷ []
+
+abbrev pub visibility_at : List (List ℕ)
+visibility_at = codes "visibility" ∷ []
+
+abbrev pub purpose_at : List (List ℕ)
+purpose_at = codes "purpose" ∷ []
+
+abbrev pub binding_at : List (List ℕ)
+binding_at = codes "binding" ∷ []
+
+abbrev pub color8_at : List (List ℕ)
+color8_at = codes "primvars" ∷ codes "color8" ∷ []
+
+abbrev pub display_color_at : List (List ℕ)
+display_color_at = codes "primvars" ∷ codes "displayColor" ∷ []
+
+-- and where flattening puts others
+abbrev pub matrix_at : List (List ℕ)
+matrix_at = codes "xform" ∷ codes "matrix" ∷ []
+
+abbrev pub color_at : List (List ℕ)
+color_at = codes "primvars" ∷ codes "color" ∷ []
+
+-- the op of a name
+abbrev pub op_at : Map → List ℕ → Option ops.Op
+op_at prim name = op_of (get prim (codes "xform" ∷ codes "ops" ∷ name ∷ []))
