@@ -1,0 +1,87 @@
+-- The inputs of a terminal, and their layers.
+use Rattle.std.proofs.Common.{◌≡◌, ℕ, Bool, true, ◌||◌, List, [], ◌∷◌, ◌++◌, append_assoc, map, length, Some, zero, suc, refl, sym, ◌∙◌, ap, subst, arith, slice_index_or}
+use Rattle.std.proofs.lemmas.Simd.{map-map}
+use Rattle.std.proofs.lemmas.List.{append-nil, map-set, map_push}
+use Rattle.std.proofs.lemmas.List.Elements.{All-map, All-push, All-set}
+use Rattle.std.proofs.lemmas.Option.{slice_get-map, get_or_from_slice_get}
+use Rattle.std.specs.Prelude.{All, slice_get, slice_set}
+use Rattle.std.specs.FinMap.{empty}
+use Rattle.std.specs.Option.{option_map}
+use Rattle.hd_usda.specs.declared.spec.LayerSpec.{LayerSpec}
+use Rattle.hd_value.specs.Shapes.{is_authored, is_instanced}
+use Rattle.hd_scene.specs.Scenes.{Scene, IsClosed, IsShapedBy}
+use Rattle.hd_retained.specs.Edits.{State}
+use Rattle.hd_retained.specs.Layers.{Layer, layer_of, scene_of}
+use Rattle.hd_merging.specs.Merges.{merged}
+use Rattle.hd_merging.proofs.Shaping.{merged_shaped}
+use Rattle.hd_stack.specs.Stacks.{composed, layer_at, IsSound, AreSound}
+
+abbrev pub layers_of : List State → List Layer
+layers_of inputs = map (λ (r : State). r.layer) inputs
+
+abbrev pub scenes_of : List State → List Scene
+scenes_of inputs = map (λ (r : State). scene_of r.layer) inputs
+
+pub fused : (inputs : List State) → map scene_of (layers_of inputs) ≡ scenes_of inputs
+fused inputs = map-map scene_of (λ (r : State). r.layer) inputs
+
+or_first : (a b : Bool) → a ≡ true → (a || b) ≡ true
+or_first a b h = ap (λ t. t || b) h
+
+-- what a layer authors may stand behind instancing
+pub shaped_more : (scene : Scene) → IsShapedBy is_authored scene → IsShapedBy is_instanced scene
+shaped_more scene shaped path e there at v is = or_first (is_authored at v) _ (shaped path e there at v is)
+
+pub inputs_closed : (inputs : List State) → AreSound (layers_of inputs) → All (λ (r : State). IsClosed (scene_of r.layer)) inputs
+inputs_closed [] all k d l = absurd (omega (arith, l))
+inputs_closed (r ∷ inputs) all zero d l = (all 0 r.layer (omega arith)).closed
+inputs_closed (r ∷ inputs) all (suc k) d l = inputs_closed inputs (λ j e m. all (suc j) e (omega (arith, m))) k d (omega (arith, l))
+
+layers_shaped : (layers : List Layer) → AreSound layers → All (IsShapedBy is_instanced) (map scene_of layers)
+layers_shaped layers all = All-map (IsShapedBy is_instanced) scene_of layers (λ k d l. shaped_more (scene_of (slice_index_or layers k d)) (all k d l).shaped)
+
+pub composed_shaped : (layers : List Layer) → AreSound layers → IsShapedBy is_instanced (composed layers)
+composed_shaped layers all = merged_shaped is_instanced (map scene_of layers) (layers_shaped layers all)
+
+pub terminal_shaped : (inputs : List State) → AreSound (layers_of inputs) → IsShapedBy is_instanced (merged (scenes_of inputs))
+terminal_shaped inputs all = subst (λ (ss : List Scene). IsShapedBy is_instanced (merged ss)) (fused inputs) (composed_shaped (layers_of inputs) all)
+
+-- the layer of the input of a number
+pub input_layer : (inputs : List State) (k : ℕ) (r : State) → slice_get inputs k ≡ Some r → layer_at (layers_of inputs) k ≡ r.layer
+input_layer inputs k r is = get_or_from_slice_get (layers_of inputs) k r.layer empty (slice_get-map (λ (s : State). s.layer) inputs k ∙ ap (option_map (λ (s : State). s.layer)) is)
+
+pub layers_set : (inputs : List State) (k : ℕ) (r : State) → layers_of (slice_set inputs k r) ≡ slice_set (layers_of inputs) k r.layer
+layers_set inputs k r = map-set (λ (s : State). s.layer) inputs k r
+
+pub sound_set : (inputs : List State) (k : ℕ) (r : State) → IsSound r.layer → AreSound (layers_of inputs) → AreSound (layers_of (slice_set inputs k r))
+sound_set inputs k r is all = subst AreSound (sym (layers_set inputs k r)) (All-set IsSound (layers_of inputs) k r.layer is all)
+
+-- one more layer that was read, as an input
+pub layers_more : (inputs : List State) (r : State) (read : LayerSpec) (left rest : List LayerSpec) (layers : List Layer) → left ≡ read ∷ rest → r.layer ≡ layer_of read
+    → layers ≡ layers_of inputs ++ map layer_of left → layers ≡ layers_of (inputs ++ r ∷ []) ++ map layer_of rest
+layers_more inputs r read left rest layers next own before =
+    before
+    ∙ ap (λ (specs : List LayerSpec). layers_of inputs ++ map layer_of specs) next
+    ∙ ap (λ (layer : Layer). layers_of inputs ++ layer ∷ map layer_of rest) (sym own)
+    ∙ sym (append_assoc (layers_of inputs) (r.layer ∷ []) (map layer_of rest))
+    ∙ ap (λ (own_layers : List Layer). own_layers ++ map layer_of rest) (sym (map_push (λ (s : State). s.layer) inputs r))
+
+pub sound_more : (inputs : List State) (r : State) → IsSound r.layer → AreSound (layers_of inputs) → AreSound (layers_of (inputs ++ r ∷ []))
+sound_more inputs r is all = subst AreSound (sym (map_push (λ (s : State). s.layer) inputs r)) (All-push IsSound (layers_of inputs) r.layer all is)
+
+pub first_formed : {X : Type 0} (P : X → Type 0) (left rest : List X) (x : X) → left ≡ x ∷ rest → All P left → P x × All P rest
+first_formed P left rest x next all =
+    let own = subst (All P) next all in
+    (own 0 x (omega arith), λ k d l. own (suc k) d (omega (arith, l)))
+
+pub none_left : {X : Type 0} (left : List X) → length left ≡ 0 → left ≡ []
+none_left [] h = refl
+none_left (x ∷ left) h = absurd (omega (arith, h))
+
+pub layers_all : (inputs : List State) (left : List LayerSpec) (layers : List Layer) → length left ≡ 0 → layers ≡ layers_of inputs ++ map layer_of left → layers_of inputs ≡ layers
+layers_all inputs left layers none before =
+    sym (before ∙ ap (λ (specs : List LayerSpec). layers_of inputs ++ map layer_of specs) (none_left left none) ∙ append-nil (layers_of inputs))
+
+-- what is asked is what the layers give
+pub same_scene : (inputs : List State) → merged (scenes_of inputs) ≡ composed (layers_of inputs)
+same_scene inputs = ap merged (sym (fused inputs))

@@ -1,0 +1,5 @@
+pub mod Layered
+pub mod KindsOf
+pub mod Editing
+pub mod Unnested
+pub mod Composing

@@ -1,0 +1,50 @@
+use Rattle.std.proofs.Common.{◌≡◌, List, [], ◌∷◌, ◌++◌, map, length, IsTrue, sym, ◌∙◌, ap, subst, arith}
+use Rattle.std.proofs.lemmas.List.Elements.{All-nil}
+use Rattle.std.specs.Prelude.{All}
+use Rattle.std.specs.Vec.Iter.{into_iter_items}
+use Rattle.hd_usda.specs.WellFormed.{is_layer}
+use Rattle.hd_usda.specs.declared.spec.LayerSpec.{LayerSpec}
+use Rattle.hd_retained.specs.Edits.{State}
+use Rattle.hd_retained.specs.Layers.{layer_of}
+use Rattle.hd_merging.specs.Merged.{Merged}
+use Rattle.hd_flattening.specs.Filters.{Filter}
+use Rattle.hd_stack.specs.Stacks.{IsSound, AreSound}
+use Rattle.hd_stack.proofs.Layered.{layers_of, layers_more, sound_more, first_formed}
+use Rattle.hd_stack.proofs.stack.Stack.new.Goals as goal
+
+pub loop-layer-init : goal.loop-layer-init
+loop-layer-init c =
+    let gives = c.into_iter-layer-iterator.ensures.into_iter_gives in
+    let left : List LayerSpec = into_iter_items c.into_iter-layer-iterator.result in
+    let none = c.in_ok-inputs.ensures.items in
+    let many : length left ≡ length c.args.layers.items = ap (λ (specs : List LayerSpec). length specs) gives.0 in
+    record {
+      layers = ap (map layer_of) (sym gives.0) ∙ ap (λ (inputs : List State). layers_of inputs ++ map layer_of left) (sym none);
+      sound = subst (λ (inputs : List State). AreSound (layers_of inputs)) (sym none) (All-nil IsSound);
+      formed = subst (All (λ (layer : LayerSpec). IsTrue (is_layer layer))) (sym gives.0) c.requires.formed;
+      counted = omega (arith, gives.1, c.args.layers.ok, many);
+    }
+
+pub loop-layer-preserved : goal.loop-layer-preserved
+loop-layer-preserved c =
+    let before = c.loop-layer.invariant in
+    let inputs : List State = c.loop-layer.inputs.items in
+    let left : List LayerSpec = into_iter_items c.loop-layer.layer-iterator in
+    let rest : List LayerSpec = into_iter_items c.next.new.self in
+    let steps = c.in-Some.ensures.steps in
+    let made : State = c.in_ok-input_of.field-0 in
+    let pushed : c.push.new.self.items ≡ inputs ++ made ∷ [] = c.in_ok-push.ensures.items in
+    let many : length left ≡ length (c.in-Some.layer ∷ rest) = ap (λ (specs : List LayerSpec). length specs) steps.0 in
+    record {
+      layers =
+          layers_more inputs made c.in-Some.layer left rest (map layer_of c.args.layers.items) steps.0 c.in_ok-input_of.ensures.layer before.layers
+          ∙ ap (λ (all : List State). layers_of all ++ map layer_of rest) (sym pushed);
+      sound = subst (λ (all : List State). AreSound (layers_of all)) (sym pushed) (sound_more inputs made c.in_ok-input_of.ensures.sound before.sound);
+      formed = (first_formed (λ (layer : LayerSpec). IsTrue (is_layer layer)) left rest c.in-Some.layer steps.0 before.formed).1;
+      counted = omega (arith, steps.1, before.counted, many);
+    }
+
+pub invariant_of-result : goal.invariant_of-result
+invariant_of-result c =
+    subst (λ (t : Filter (Merged State)). AreSound (layers_of t.input.inputs)) (sym c.new-2.ensures)
+    (subst (λ (m : Merged State). AreSound (layers_of m.inputs)) (sym c.new.ensures) c.loop-layer.invariant.sound)

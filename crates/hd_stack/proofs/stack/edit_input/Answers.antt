@@ -1,0 +1,45 @@
+use Rattle.std.proofs.Common.{◌≡◌, Ok, sym, subst}
+use Rattle.std.specs.Prelude.{slice_set}
+use Rattle.hd_retained.specs.Edits.{State, IsRefusal}
+use Rattle.hd_merging.specs.Merged.{Merged}
+use Rattle.hd_stack.specs.Stacks.{layers_in, edited_at, IsSound, AreSound}
+use Rattle.hd_stack.proofs.Layered.{layers_of, sound_set}
+use Rattle.hd_stack.proofs.Editing.{edit_done, edit_refused, edit_kept, handed_on, whatever_came}
+use Rattle.hd_stack.proofs.stack.edit_input.Goals as goal
+
+pub returns-in_err-done-clause-sound : goal.returns-in_err-done-clause-sound
+returns-in_err-done-clause-sound c =
+    let m : Merged State = c.input_mut.result.now in
+    let sound : AreSound (layers_of m.inputs) = subst (λ (n : Merged State). AreSound (layers_of n.inputs)) (sym c.input_mut.ensures.value) c.requires.sound in
+    let own : IsSound c.edit-done.new.self.layer = record { closed = c.is_in_step.ensures; shaped = c.is_shaped.ensures } in
+    sound_set m.inputs c.args.layer c.edit-done.new.self own sound
+
+pub returns-in_err-done-clause-refusal : goal.returns-in_err-done-clause-refusal
+returns-in_err-done-clause-refusal c =
+    let m : Merged State = c.input_mut.result.now in
+    let fault = c.in_err-done.field-0.0 in
+    handed_on c.from_residual.result fault (edited_at (layers_in c.args.terminal.now) c.args.layer c.args.edit.now) c.from_residual.ensures.1
+    (subst (λ (n : Merged State). IsRefusal (edited_at (layers_of n.inputs) c.args.layer c.args.edit.now) fault) c.input_mut.ensures.value
+    (edit_refused m.inputs c.args.layer c.input_mut-input.result.now c.args.edit.now fault c.input_mut-input.ensures.value c.in_err-done.ensures.refusal))
+
+pub returns-in_err-done-clause-err : goal.returns-in_err-done-clause-err
+returns-in_err-done-clause-err c =
+    let m : Merged State = c.input_mut.result.now in
+    let s : State = c.edit-done.new.self in
+    whatever_came c.from_residual.result
+    (subst (λ (n : Merged State). layers_of (slice_set m.inputs c.args.layer s) ≡ layers_of n.inputs) c.input_mut.ensures.value
+    (edit_kept m.inputs c.args.layer c.input_mut-input.result.now s c.input_mut-input.ensures.value c.in_err-done.ensures.err))
+
+pub returns-clause-sound : goal.returns-clause-sound
+returns-clause-sound c =
+    let m : Merged State = c.input_mut.result.now in
+    let sound : AreSound (layers_of m.inputs) = subst (λ (n : Merged State). AreSound (layers_of n.inputs)) (sym c.input_mut.ensures.value) c.requires.sound in
+    let own : IsSound c.edit-done.new.self.layer = record { closed = c.is_in_step.ensures; shaped = c.is_shaped.ensures } in
+    sound_set m.inputs c.args.layer c.edit-done.new.self own sound
+
+pub returns-clause-done : goal.returns-clause-done
+returns-clause-done c =
+    let m : Merged State = c.input_mut.result.now in
+    let s : State = c.edit-done.new.self in
+    subst (λ (n : Merged State). edited_at (layers_of n.inputs) c.args.layer c.args.edit.now ≡ Ok (layers_of (slice_set m.inputs c.args.layer s))) c.input_mut.ensures.value
+    (edit_done m.inputs c.args.layer c.input_mut-input.result.now s c.args.edit.now c.input_mut-input.ensures.value c.in_ok-done.ensures.done)

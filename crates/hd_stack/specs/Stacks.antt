@@ -1,0 +1,55 @@
+-- Layers that make one scene together, of which the first is the strongest.
+use Rattle.std.specs.Prelude.{ℕ, List, map, All, Result, Ok, Err, slice_index_or, slice_set, refl}
+use Rattle.std.specs.Coded.{Coded, code_by, coded×, coded_ℕ, coded_list}
+use Rattle.std.specs.FinMap.{empty}
+use Rattle.hd_usda.specs.declared.edit.Edit.{Edit}
+use Rattle.hd_value.specs.Shapes.{is_authored}
+use Rattle.hd_scene.specs.Scenes.{Scene, IsClosed, IsShapedBy}
+use Rattle.hd_retained.specs.declared.fault.EditFault.{EditFault}
+use Rattle.hd_retained.specs.Layers.{Layer, layer_code, scene_of}
+use Rattle.hd_retained.specs.Edits.{State, edited}
+use Rattle.hd_merging.specs.Merged.{Merged}
+use Rattle.hd_merging.specs.Merges.{merged}
+use Rattle.hd_flattening.specs.Filters.{Filter}
+use Rattle.hd_flattening.specs.Flattened.{flattened}
+
+-- the layers, and how often the stack was asked for a prim
+pub record Stacked : Type 0 where
+  pub layers : List Layer
+  pub pulls : ℕ
+
+abbrev pub stacked_code : Coded Stacked
+stacked_code = code_by (List Layer × ℕ) (coded× (coded_list layer_code) coded_ℕ) (λ s. (s.layers, s.pulls)) (λ p. record { layers = p.0; pulls = p.1 }) (λ _. refl)
+
+-- the scene that the layers author together
+abbrev pub composed : List Layer → Scene
+composed layers = merged (map scene_of layers)
+
+-- the same, where each prim has what it takes from those above it
+abbrev pub terminal_scene : List Layer → Scene
+terminal_scene layers = flattened (composed layers)
+
+-- the layer of this number
+abbrev pub layer_at : List Layer → ℕ → Layer
+layer_at layers number = slice_index_or layers number empty
+
+-- the layers with another one in place of the one of this number
+abbrev pub with_layer : List Layer → ℕ → Result Layer EditFault → Result (List Layer) EditFault
+with_layer layers number (Ok layer) = Ok (slice_set layers number layer)
+with_layer layers number (Err fault) = Err fault
+
+-- the layers after an edit of the one of this number, or the refusal, which that layer alone decides
+abbrev pub edited_at : List Layer → ℕ → Edit → Result (List Layer) EditFault
+edited_at layers number edit = with_layer layers number (edited (layer_at layers number) edit)
+
+-- the paths of a layer are paths, each prim has its parent, and has values that a text can author
+pub record IsSound (layer : Layer) : Type 0 where
+  pub closed : IsClosed (scene_of layer)
+  pub shaped : IsShapedBy is_authored (scene_of layer)
+
+abbrev pub AreSound : List Layer → Type 0
+AreSound layers = All IsSound layers
+
+-- the layers at the inputs of a terminal
+abbrev pub layers_in : Filter (Merged State) → List Layer
+layers_in terminal = map (λ (r : State). r.layer) terminal.input.inputs

@@ -1,0 +1,207 @@
+//! A stack of layers, merged and flattened.
+
+ghost use Rattle.std.specs.Prelude.{◌≡◌, ◌<◌, ◌≤◌, length, map, All, Ok, OnOk, OnErr, IfOk, IfErr, IsTrue, option_copied, vec_len};
+ghost use Rattle.hd_usda.specs.Edits.{is_edit};
+ghost use Rattle.hd_usda.specs.WellFormed.{is_layer};
+ghost use Rattle.hd_scene.specs.Scenes.{kind_at};
+ghost use Rattle.hd_retained.specs.Edits.{IsRefusal};
+ghost use Rattle.hd_retained.specs.Layers.{layer_of, ArePathsFrom};
+ghost use Rattle.hd_stack.specs.Kinds.{is_named, kind_over};
+ghost use Rattle.hd_stack.specs.Stacks.{composed, terminal_scene, layers_in, layer_at, edited_at, IsSound, AreSound};
+
+use hd_flattening::Flattening;
+use hd_merging::Merging;
+use hd_num::List;
+use hd_path::{Path, Token};
+use hd_retained::{EditFault, Layer, Retained};
+use hd_scene::{Prim, SceneIndex};
+use hd_usda::{Edit, LayerSpec};
+use std::alloc::{AllocError, Global};
+use std::marker::Model;
+
+/// The scene of several layers: merged, and then flattened.
+pub type Terminal = Flattening<Merging<Retained>>;
+
+/// Layers, of which the first is the strongest, as one scene index. It is always in step with them.
+#[derive(Drop)]
+pub struct Stack {
+    terminal: Terminal,
+}
+
+impl Model for Stack {
+    ghost use Rattle.std.specs.Prelude.{map};
+    ghost use Rattle.hd_stack.specs.Stacks.{Stacked, stacked_code, AreSound};
+
+    ghost Value = { Stacked };
+
+    ghost coded = { stacked_code };
+
+    ghost view = { λ stack. record { layers = map (λ r. r.layer) stack.terminal.input.inputs; pulls = stack.terminal.pulls } };
+
+    ghost invariant = { λ stack. AreSound (map (λ r. r.layer) stack.terminal.input.inputs) };
+}
+
+impl Stack {
+    /// The stack of layers that were read, from one to eight, of which the first is the strongest. The call fails for
+    /// want of memory alone.
+    pub fn new(alloc: Global, layers: Vec<LayerSpec>) -> Result<Stack, AllocError>
+        requires some { 1 ≤ vec_len layers }
+        requires few { vec_len layers ≤ 8 }
+        requires formed { All (λ layer. IsTrue (is_layer layer)) layers.items }
+        ensures layers { IfOk result (λ stack. stack.layers ≡ map layer_of layers.items) }
+        ensures pulls { IfOk result (λ stack. stack.pulls ≡ 0) }
+    {
+        let mut inputs = Vec::with_capacity(alloc, layers.len())?;
+        for layer in layers {
+            inputs.push(input_of(alloc, layer)?)?;
+        }
+        Ok(Stack {
+            terminal: Flattening::new(Merging::new(inputs)),
+        })
+    }
+
+    /// How many layers there are.
+    pub fn layers(&self) -> usize
+        ensures { result ≡ length self.now.layers }
+    {
+        self.terminal.input().count()
+    }
+
+    /// Edits the layer of this number, counted from 0. That layer alone decides a refusal, and a refused edit changes
+    /// nothing.
+    pub fn edit(&mut self, alloc: Global, layer: usize, edit: &Edit) -> Result<(), EditFault>
+        requires below { layer < length self.old.layers }
+        requires formed { IsTrue (is_edit edit.now) }
+        ensures done { OnOk result (edited_at self.old.layers layer edit.now ≡ Ok self.new.layers) }
+        ensures refusal { IfErr result (IsRefusal (edited_at self.old.layers layer edit.now)) }
+        ensures err { OnErr result (self.new ≡ self.old) }
+        ensures same_pulls { self.new.pulls ≡ self.old.pulls }
+    {
+        edit_input(&mut self.terminal, alloc, layer, edit)
+    }
+
+    /// The kind of the prim at a path: the first that is not empty, of the layers that have a prim there.
+    pub fn kind(&self, path: &Path) -> Result<Option<&Token>, AllocError>
+        ensures { IfOk result (λ kind. option_copied kind ≡ kind_at (composed self.now.layers) path.now) }
+    {
+        kind_of(self.terminal.input(), path)
+    }
+
+    /// The paths of one layer's prims at and below a path, those with fewer names first, and else in their order.
+    pub fn paths_from(
+        &self,
+        alloc: Global,
+        layer: usize,
+        path: &Path,
+    ) -> Result<Vec<Path>, AllocError>
+        requires { layer < length self.now.layers }
+        ensures { IfOk result (λ paths. ArePathsFrom (layer_at self.now.layers layer) path.now paths.items) }
+    {
+        self.terminal.input().input(layer).paths_from(alloc, path)
+    }
+
+    /// The stack is in step: a fact for proofs, which costs nothing.
+    pub fn is_in_step(&self)
+        ensures { AreSound self.now.layers }
+    {
+        let _ = &self.terminal;
+    }
+}
+
+impl SceneIndex for Stack {
+    ghost use Rattle.hd_stack.specs.Scenes.{terminal_closed};
+
+    type Origin = List<Layer>;
+
+    ghost scene = { λ stack. terminal_scene stack.layers };
+
+    ghost origin = { λ stack. stack.layers };
+
+    ghost is_in_step = { λ stack. AreSound stack.layers };
+
+    ghost pulls = { λ stack. stack.pulls };
+
+    fn prim(&mut self, alloc: Global, path: &Path) -> Result<Prim, AllocError> {
+        self.terminal.prim(alloc, path)
+    }
+
+    fn children(&mut self, alloc: Global, path: &Path) -> Result<List<Token>, AllocError> {
+        self.terminal.children(alloc, path)
+    }
+
+    fn pulls(&self) -> u64 {
+        self.terminal.pulls()
+    }
+
+    ghost closed = { λ stack in_step. terminal_closed stack.layers in_step };
+}
+
+/// A layer as an input of the merging.
+fn input_of(alloc: Global, layer: LayerSpec) -> Result<Retained, AllocError>
+    requires { IsTrue (is_layer layer) }
+    ensures layer { IfOk result (λ made. made.layer ≡ layer_of layer) }
+    ensures sound { IfOk result (λ made. IsSound made.layer) }
+{
+    let input = Retained::from_layer(alloc, layer)?;
+    input.is_in_step();
+    input.is_shaped();
+    Ok(input)
+}
+
+/// Edits the layer of this number, below the filters.
+fn edit_input(
+    terminal: &mut Terminal,
+    alloc: Global,
+    layer: usize,
+    edit: &Edit,
+) -> Result<(), EditFault>
+    requires below { layer < length terminal.old.input.inputs }
+    requires sound { AreSound (layers_in terminal.old) }
+    requires formed { IsTrue (is_edit edit.now) }
+    ensures sound { AreSound (layers_in terminal.new) }
+    ensures done { OnOk result (edited_at (layers_in terminal.old) layer edit.now ≡ Ok (layers_in terminal.new)) }
+    ensures refusal { IfErr result (IsRefusal (edited_at (layers_in terminal.old) layer edit.now)) }
+    ensures err { OnErr result (layers_in terminal.new ≡ layers_in terminal.old) }
+    ensures same_pulls { terminal.new.pulls ≡ terminal.old.pulls }
+{
+    let input = terminal.input_mut().input_mut(layer);
+    let done = input.edit(alloc, edit);
+    input.is_in_step();
+    input.is_shaped();
+    done?;
+    Ok(())
+}
+
+/// Whether a kind is there and is not empty.
+fn is_named(kind: Option<&Token>) -> bool
+    ensures { result ≡ is_named (option_copied kind.entry) }
+{
+    match kind {
+        Some(kind) => !kind.text().is_empty(),
+        None => false,
+    }
+}
+
+/// The first of two kinds that is not empty, or else an empty one that is there.
+fn kind_over<'a>(strong: Option<&'a Token>, weak: Option<&'a Token>) -> Option<&'a Token>
+    ensures { option_copied result ≡ kind_over (option_copied strong.entry) (option_copied weak.entry) }
+{
+    if is_named(strong) {
+        return strong;
+    }
+    weak.or(strong)
+}
+
+/// The kind of the prim that the inputs together have at a path. No input behind the one that decides is asked.
+fn kind_of<'a>(inputs: &'a Merging<Retained>, path: &Path) -> Result<Option<&'a Token>, AllocError>
+    ensures { IfOk result (λ kind. option_copied kind ≡ kind_at (composed (map (λ r. r.layer) inputs.now.inputs)) path.now) }
+{
+    let mut found = None;
+    for k in 0..inputs.count() {
+        if is_named(found) {
+            return Ok(found);
+        }
+        found = kind_over(found, inputs.input(k).kind(path)?);
+    }
+    Ok(found)
+}
