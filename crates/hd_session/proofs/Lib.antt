@@ -1,0 +1,6 @@
+pub mod ComposedKinds
+pub mod LawProofs
+pub mod RowPaths
+pub mod Serving
+pub mod Untouched
+pub mod Updating
