@@ -2,8 +2,8 @@
 use Rattle.std.proofs.Common.{◌≡◌, ℕ, ◌∙◌, List, [], ◌∷◌, ◌++◌, take, Option, Some, None, refl, sym, ap, inl, inr, append-nil}
 use Rattle.std.specs.Option.{option_map}
 use Rattle.hd_io.specs.Files.{FileList}
-use Rattle.hd_app.specs.Acts.{file, line, Outside, outside, WroteCut}
-use Rattle.hd_app.specs.Outside.{with_whole, CutFile, CutLine}
+use Rattle.hd_io.specs.Acts.{file, line, Outside, outside, WroteCut}
+use Rattle.hd_io.specs.Writing.{with_whole, CutFile, CutLine}
 
 -- nothing was added
 pub nothing_added : {A : Type 0} (held : Option (List A)) → held ≡ option_map (λ (xs : List A). xs ++ []) held

@@ -5,9 +5,10 @@ use Rattle.hd_io.specs.declared.fault.OutsideFault.TheVariants.{Failed, NoMemory
 use Rattle.hd_picture.specs.Pixels.{picture}
 use Rattle.hd_picture.specs.Ppm.{ppm}
 use Rattle.hd_usda.specs.declared.spec.LayerSpec.{LayerSpec}
-use Rattle.hd_app.specs.Acts.{file, line, Outside, WroteCut}
-use Rattle.hd_app.specs.Endings.{Ends, WriteCause, status_of_write}
-use Rattle.hd_app.specs.Outcomes.{Outcome, drawn, root_frame, frame_line}
+use Rattle.hd_io.specs.Acts.{file, line, Outside, WroteCut, WriteCause}
+use Rattle.hd_app.specs.Endings.{Ends, status_of_write}
+use Rattle.hd_app.specs.Outcomes.{drawn, root_frame, frame_line}
+use Rattle.hd_app.specs.Refusing.{Outcome}
 use Rattle.hd_app.proofs.CutLemmas.{none_made}
 
 -- a write that was broken off ends the run

@@ -1,11 +1,16 @@
+pub mod ActLemmas
 pub mod Counting
 pub mod CutLemmas
 pub mod EndLemmas
 pub mod Fanning
 pub mod FrameLemmas
+pub mod InputLemmas
+pub mod LineLemmas
+pub mod NameLemmas
 pub mod Nearness
 pub mod Reading
-pub mod WritingLemmas
 pub mod RunLemmas
+pub mod ScriptLemmas
+pub mod TextLemmas
 pub mod TileLemmas
 pub mod TopLemmas

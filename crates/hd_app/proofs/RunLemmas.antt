@@ -6,18 +6,14 @@ use Rattle.hd_usda.specs.declared.spec.LayerSpec.{LayerSpec}
 use Rattle.hd_io.specs.Causes.{Rose}
 use Rattle.hd_io.specs.Files.{FileList, FileMap}
 use Rattle.hd_app.specs.declared.status.Status.{Status}
-use Rattle.hd_app.specs.declared.status.Status.TheVariants.{Done, Usage, Layer, Limit, ReadFault, WriteFault, NoMemory}
-use Rattle.hd_app.specs.Acts.{Act, file, line, Cut, Outside, Adds, WroteCut}
-use Rattle.hd_app.specs.Commands.{Draw}
+use Rattle.hd_app.specs.declared.status.Status.TheVariants.{Done, Usage, Layer, Script, Limit, ReadFault, WriteFault, NoMemory}
+use Rattle.hd_io.specs.Acts.{Act, file, line, Cut, Outside, Adds, WroteCut}
+use Rattle.hd_app.specs.Commands.{Program, draw}
 use Rattle.hd_app.specs.Endings.{Ends, IsReadFault}
-use Rattle.hd_app.specs.Outcomes.{Outcome, outcome_of, drawn, drawn_if_read, refused, layer_in}
-use Rattle.hd_app.specs.Runs.{ShelfState, RefusesLayer, IsAnswerTo, Runs}
-
--- nothing is a beginning of any acts
-cut_nothing : (acts : List Act) → Cut acts [] []
-cut_nothing [] = (refl, refl)
-cut_nothing (file name bytes ∷ acts) = inl (refl, refl)
-cut_nothing (line bytes ∷ acts) = inl (refl, refl)
+use Rattle.hd_app.specs.Outcomes.{outcome_of, drawn, drawn_if_read, layer_in}
+use Rattle.hd_app.specs.Refusing.{Outcome, refused}
+use Rattle.hd_app.specs.Runs.{ShelfState, TellsRefusal, RefusesFiles, IsAnswerTo, Runs}
+use Rattle.hd_app.proofs.ActLemmas.{cut_nothing}
 
 -- of a line without bytes nothing can be written
 empty_line : (files : FileList) (text : List ℕ) → Cut (line [] ∷ []) files text → (files ≡ []) × (text ≡ [])
@@ -42,14 +38,14 @@ for_want_of_memory due before now status (inr (inr out)) =
     inr (inr (record { ending = out.ending; written = of_nothing due.acts before now out.written; faults = out.faults }))
 
 -- the outcome of the files where they are told, and any other where they are not
-due_of : Option Draw → Option FileMap → Outcome → Outcome
-due_of draw None other = other
-due_of draw (Some files) other = outcome_of files draw
+due_of : Option Program → Option FileMap → Outcome → Outcome
+due_of program None other = other
+due_of program (Some files) other = outcome_of files program
 
-told_due : (draw : Option Draw) (told : Option FileMap) (other : Outcome) → IfSome told (λ files. outcome_of files draw ≡ due_of draw told other)
+told_due : (program : Option Program) (told : Option FileMap) (other : Outcome) → IfSome told (λ files. outcome_of files program ≡ due_of program told other)
 unfolding due_of
-told_due draw None other = tt
-told_due draw (Some files) other = refl
+told_due program None other = tt
+told_due program (Some files) other = refl
 
 -- what holds of the outcome's own ending and of those of a run that is broken off holds of the status
 ended : (P : Status → Type 0) (outcome : Outcome) (before now : Outside) (status : Status) → P outcome.ending → P WriteFault → P NoMemory → Ends outcome before now status → P status
@@ -57,9 +53,9 @@ ended P outcome before now status own fault memory (inl whole) = subst P (sym wh
 ended P outcome before now status own fault memory (inr (inl off)) = subst P (sym off.ending) fault
 ended P outcome before now status own fault memory (inr (inr out)) = subst P (sym out.ending) memory
 
-answers : (draw : Option Draw) (shelf : ShelfState) (outcome : Outcome) (before now : Outside) (status : Status)
-    → IsAnswerTo draw shelf outcome.ending → Ends outcome before now status → IsAnswerTo draw shelf status
-answers draw shelf outcome before now status own ends = ended (IsAnswerTo draw shelf) outcome before now status own tt tt ends
+answers : (program : Option Program) (shelf : ShelfState) (outcome : Outcome) (before now : Outside) (status : Status)
+    → IsAnswerTo program shelf outcome.ending → Ends outcome before now status → IsAnswerTo program shelf status
+answers program shelf outcome before now status own ends = ended (IsAnswerTo program shelf) outcome before now status own tt tt ends
 
 no_read_fault : (outcome : Outcome) (before now : Outside) (status : Status)
     → (IsReadFault outcome.ending → ⊥) → Ends outcome before now status → IsReadFault status → ⊥
@@ -84,70 +80,63 @@ usage_runs shelf before now status ends = inl (record {
   write = ends_in_fault (refused Usage) before now status (λ (no : Usage ≡ WriteFault). cc) ends;
 })
 
-told_drawn : (draw : Draw) (layer : LayerSpec) (told : Option FileMap) → IfSome told (λ files. layer_in files draw.layer ≡ Ok layer)
-    → IfSome told (λ files. outcome_of files (Some draw) ≡ drawn draw.out layer)
-told_drawn draw layer None read = tt
-told_drawn draw layer (Some files) read = ap (drawn_if_read draw.out) read
+-- a run that ended by the outcome of its files
+pub ran_runs : (program : Program) (due : Outcome) (shelf_before shelf_now : ShelfState) (before now : Outside) (status : Status)
+    → IfSome shelf_before.files (λ files. outcome_of files (Some program) ≡ due) → shelf_now.faults ≡ shelf_before.faults
+    → IsAnswerTo (Some program) shelf_now due.ending → (IsReadFault due.ending → ⊥) → (due.ending ≡ WriteFault → ⊥)
+    → Ends due before now status → Runs (Some program) shelf_before shelf_now before now status
+ran_runs program due shelf_before shelf_now before now status told kept answer read write ends = inl (record {
+  due = due;
+  ends = ends;
+  told = told;
+  faults = kept;
+  answer = answers (Some program) shelf_now due before now status answer ends;
+  read = no_read_fault due before now status read ends;
+  write = ends_in_fault due before now status write ends;
+})
+
+told_drawn : (name out : List ℕ) (layer : LayerSpec) (told : Option FileMap) → IfSome told (λ files. layer_in files name ≡ Ok layer)
+    → IfSome told (λ files. outcome_of files (Some (draw name out)) ≡ drawn out layer)
+told_drawn name out layer None read = tt
+told_drawn name out layer (Some files) read = ap (drawn_if_read out) read
 
 -- a layer that was read is drawn
-pub drawn_runs : (draw : Draw) (layer : LayerSpec) (shelf_before shelf_now : ShelfState) (before now : Outside) (status : Status)
-    → IfSome shelf_before.files (λ files. layer_in files draw.layer ≡ Ok layer) → shelf_now.faults ≡ shelf_before.faults
-    → Ends (drawn draw.out layer) before now status → Runs (Some draw) shelf_before shelf_now before now status
-drawn_runs draw layer shelf_before shelf_now before now status read kept ends = inl (record {
-  due = drawn draw.out layer;
-  ends = ends;
-  told = told_drawn draw layer shelf_before.files read;
-  faults = kept;
-  answer = answers (Some draw) shelf_now (drawn draw.out layer) before now status refl ends;
-  read = no_read_fault (drawn draw.out layer) before now status (λ no. no) ends;
-  write = ends_in_fault (drawn draw.out layer) before now status (λ (no : Done ≡ WriteFault). cc) ends;
-})
+pub drawn_runs : (name out : List ℕ) (layer : LayerSpec) (shelf_before shelf_now : ShelfState) (before now : Outside) (status : Status)
+    → IfSome shelf_before.files (λ files. layer_in files name ≡ Ok layer) → shelf_now.faults ≡ shelf_before.faults
+    → Ends (drawn out layer) before now status → Runs (Some (draw name out)) shelf_before shelf_now before now status
+drawn_runs name out layer shelf_before shelf_now before now status read kept ends =
+    ran_runs (draw name out) (drawn out layer) shelf_before shelf_now before now status
+    (told_drawn name out layer shelf_before.files read) kept refl (λ no. no) (λ (no : Done ≡ WriteFault). cc) ends
 
-told_refused : (draw : Draw) (refusal : Status) (told : Option FileMap) → IfSome told (λ files. layer_in files draw.layer ≡ Err refusal)
-    → IfSome told (λ files. outcome_of files (Some draw) ≡ refused refusal)
-told_refused draw refusal None read = tt
-told_refused draw refusal (Some files) read = ap (drawn_if_read draw.out) read
-
--- a layer that was refused is told
-pub refused_runs : (draw : Draw) (refusal : Status) (shelf_before shelf_now : ShelfState) (before now : Outside) (status : Status)
-    → RefusesLayer draw.layer shelf_before shelf_now refusal
-    → Ends (refused refusal) before now status → Runs (Some draw) shelf_before shelf_now before now status
-refused_runs draw (ReadFault name) shelf_before shelf_now before now status why ends = inr (record {
-  layer = name;
-  named = why.0;
-  failed = record { rose = why.1.rose; named = why.1.named ∙ ap (λ (n : List ℕ). Some n) (sym why.0) };
+-- files that were refused are told
+pub refused_runs : (program : Program) (refusal : Status) (shelf_before shelf_now : ShelfState) (before now : Outside) (status : Status)
+    → RefusesFiles program shelf_before shelf_now refusal
+    → Ends (refused refusal) before now status → Runs (Some program) shelf_before shelf_now before now status
+refused_runs program (ReadFault name) shelf_before shelf_now before now status why ends = inr (record {
+  file = name;
+  reached = why.0;
+  failed = why.1;
   ends = ends;
 })
-refused_runs draw (Layer name row word) shelf_before shelf_now before now status why ends = inl (record {
-  due = refused (Layer name row word);
-  ends = ends;
-  told = told_refused draw (Layer name row word) shelf_before.files why.2;
-  faults = why.0;
-  answer = answers (Some draw) shelf_now (refused (Layer name row word)) before now status why.1 ends;
-  read = no_read_fault (refused (Layer name row word)) before now status (λ no. no) ends;
-  write = ends_in_fault (refused (Layer name row word)) before now status (λ (no : Layer name row word ≡ WriteFault). cc) ends;
-})
-refused_runs draw (Limit place which count) shelf_before shelf_now before now status why ends = inl (record {
-  due = refused (Limit place which count);
-  ends = ends;
-  told = told_refused draw (Limit place which count) shelf_before.files why.2;
-  faults = why.0;
-  answer = answers (Some draw) shelf_now (refused (Limit place which count)) before now status why.1 ends;
-  read = no_read_fault (refused (Limit place which count)) before now status (λ no. no) ends;
-  write = ends_in_fault (refused (Limit place which count)) before now status (λ (no : Limit place which count ≡ WriteFault). cc) ends;
-})
-refused_runs draw NoMemory shelf_before shelf_now before now status why ends = inl (record {
-  due = due_of (Some draw) shelf_before.files (refused NoMemory);
-  ends = for_want_of_memory (due_of (Some draw) shelf_before.files (refused NoMemory)) before now status ends;
-  told = told_due (Some draw) shelf_before.files (refused NoMemory);
+refused_runs program (Layer name row word) shelf_before shelf_now before now status why ends =
+    ran_runs program (refused (Layer name row word)) shelf_before shelf_now before now status why.told why.faults why.answer
+    (λ no. no) (λ (no : Layer name row word ≡ WriteFault). cc) ends
+refused_runs program (Limit place which count) shelf_before shelf_now before now status why ends =
+    ran_runs program (refused (Limit place which count)) shelf_before shelf_now before now status why.told why.faults why.answer
+    (λ no. no) (λ (no : Limit place which count ≡ WriteFault). cc) ends
+refused_runs program NoMemory shelf_before shelf_now before now status why ends = inl (record {
+  due = due_of (Some program) shelf_before.files (refused NoMemory);
+  ends = for_want_of_memory (due_of (Some program) shelf_before.files (refused NoMemory)) before now status ends;
+  told = told_due (Some program) shelf_before.files (refused NoMemory);
   faults = why;
-  answer = answers (Some draw) shelf_now (refused NoMemory) before now status tt ends;
+  answer = answers (Some program) shelf_now (refused NoMemory) before now status tt ends;
   read = no_read_fault (refused NoMemory) before now status (λ no. no) ends;
   write = ends_in_fault (refused NoMemory) before now status (λ (no : NoMemory ≡ WriteFault). cc) ends;
 })
-refused_runs draw Done shelf_before shelf_now before now status why ends = absurd why
-refused_runs draw Usage shelf_before shelf_now before now status why ends = absurd why
-refused_runs draw WriteFault shelf_before shelf_now before now status why ends = absurd why
+refused_runs program (Script row word) shelf_before shelf_now before now status why ends = absurd why
+refused_runs program Done shelf_before shelf_now before now status why ends = absurd why
+refused_runs program Usage shelf_before shelf_now before now status why ends = absurd why
+refused_runs program WriteFault shelf_before shelf_now before now status why ends = absurd why
 
 -- a refusal is never answered as done
 pub refused_not_done : (refusal : Status) (before now : Outside) (status : Status) → (refusal ≡ Done → ⊥) → Ends (refused refusal) before now status → status ≡ Done → ⊥
@@ -155,5 +144,5 @@ refused_not_done refusal before now status other (inl whole) done = other (sym w
 refused_not_done refusal before now status other (inr (inl off)) done = let no : WriteFault ≡ Done = sym off.ending ∙ done in cc
 refused_not_done refusal before now status other (inr (inr out)) done = let no : NoMemory ≡ Done = sym out.ending ∙ done in cc
 
-pub layer_not_done : (name : List ℕ) (shelf_before shelf_now : ShelfState) (refusal : Status) → RefusesLayer name shelf_before shelf_now refusal → refusal ≡ Done → ⊥
-layer_not_done name shelf_before shelf_now refusal why done = subst (RefusesLayer name shelf_before shelf_now) done why
+pub files_not_done : (program : Program) (shelf_before shelf_now : ShelfState) (refusal : Status) → RefusesFiles program shelf_before shelf_now refusal → refusal ≡ Done → ⊥
+files_not_done program shelf_before shelf_now refusal why done = subst (RefusesFiles program shelf_before shelf_now) done why

@@ -2,17 +2,13 @@
 use Rattle.std.specs.Prelude.{◌≡◌, ◌⊎◌}
 use Rattle.hd_io.specs.declared.fault.OutsideFault.{OutsideFault}
 use Rattle.hd_io.specs.declared.fault.OutsideFault.TheVariants as faults
+use Rattle.hd_io.specs.Acts.{Outside, Wrote, WroteCut, NoFault}
 use Rattle.hd_io.specs.Causes.{Rose}
 use Rattle.hd_app.specs.declared.status.Status.{Status}
-use Rattle.hd_app.specs.declared.status.Status.TheVariants.{Done, Usage, Layer, Limit, ReadFault, WriteFault, NoMemory}
-use Rattle.hd_app.specs.Acts.{Outside, Wrote, WroteCut, NoFault}
-use Rattle.hd_app.specs.Outcomes.{Outcome}
+use Rattle.hd_app.specs.declared.status.Status.TheVariants.{Done, Usage, Layer, Script, Limit, ReadFault, WriteFault, NoMemory}
+use Rattle.hd_app.specs.Refusing.{Outcome}
 
--- why a write ended: the rack or the sink failed, or memory ran out
-abbrev pub WriteCause : (before now : Outside) → OutsideFault → Type 0
-WriteCause before now faults.Failed = Rose before.rack_faults now.rack_faults ⊎ Rose before.sink_faults now.sink_faults
-WriteCause before now faults.NoMemory = NoFault before now
-
+-- how a run ends whose write was broken off
 abbrev pub status_of_write : OutsideFault → Status
 status_of_write faults.Failed = WriteFault
 status_of_write faults.NoMemory = NoMemory
@@ -43,6 +39,7 @@ abbrev pub IsDecided : Status → Type 0
 IsDecided Done = Unit {0}
 IsDecided Usage = Unit {0}
 IsDecided (Layer file line why) = Unit {0}
+IsDecided (Script line cause) = Unit {0}
 IsDecided (Limit place which count) = Unit {0}
 IsDecided (ReadFault name) = ⊥
 IsDecided WriteFault = ⊥
@@ -54,6 +51,7 @@ IsReadFault (ReadFault name) = Unit {0}
 IsReadFault Done = ⊥
 IsReadFault Usage = ⊥
 IsReadFault (Layer file line why) = ⊥
+IsReadFault (Script line cause) = ⊥
 IsReadFault (Limit place which count) = ⊥
 IsReadFault WriteFault = ⊥
 IsReadFault NoMemory = ⊥
@@ -65,5 +63,6 @@ IsBrokenOff NoMemory = Unit {0}
 IsBrokenOff Done = ⊥
 IsBrokenOff Usage = ⊥
 IsBrokenOff (Layer file line why) = ⊥
+IsBrokenOff (Script line cause) = ⊥
 IsBrokenOff (Limit place which count) = ⊥
 IsBrokenOff (ReadFault name) = ⊥

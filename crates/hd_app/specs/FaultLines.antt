@@ -3,8 +3,10 @@ use Rattle.std.specs.Prelude.{ℕ, List, [], ◌++◌, codes, decimal}
 use Rattle.hd_usda.specs.declared.fault.LayerWhy.{LayerWhy}
 use Rattle.hd_usda.specs.declared.fault.LayerWhy.TheVariants as why
 use Rattle.hd_usda.specs.Limits.{word_of}
+use Rattle.hd_session.specs.declared.refusal.ScriptWhy.{ScriptWhy}
+use Rattle.hd_session.specs.declared.refusal.ScriptWhy.TheVariants as script
 use Rattle.hd_app.specs.declared.status.Status.{Status}
-use Rattle.hd_app.specs.declared.status.Status.TheVariants.{Done, Usage, Layer, Limit, ReadFault, WriteFault, NoMemory}
+use Rattle.hd_app.specs.declared.status.Status.TheVariants.{Done, Usage, Layer, Script, Limit, ReadFault, WriteFault, NoMemory}
 use Rattle.hd_app.specs.declared.status.Place.{Place}
 use Rattle.hd_app.specs.declared.status.Place.TheVariants.{Words, File, Line}
 
@@ -13,6 +15,7 @@ abbrev pub number_of : Status → ℕ
 number_of Done = 0
 number_of Usage = 1
 number_of (Layer file line why) = 2
+number_of (Script line cause) = 3
 number_of (Limit place which count) = 4
 number_of (ReadFault name) = 5
 number_of WriteFault = 6
@@ -28,6 +31,18 @@ why_word why.LeftOut = codes "left-out"
 why_word why.Fraction = codes "fraction"
 why_word (why.Limit which) = word_of which
 
+-- the word for what is wrong with a line of a script
+abbrev pub script_word : ScriptWhy → List ℕ
+script_word script.Syntax = codes "syntax"
+script_word script.NoPrim = codes "no-prim"
+script_word script.PrimThere = codes "prim-there"
+script_word script.UnderItself = codes "under-itself"
+script_word script.NoLayer = codes "no-layer"
+script_word script.NoCamera = codes "no-camera"
+script_word script.LeftOut = codes "left-out"
+script_word script.Fraction = codes "fraction"
+script_word script.Later = codes "later"
+
 -- where a limit was passed
 abbrev pub place_text : Place → List ℕ
 place_text Words = codes "words"
@@ -38,6 +53,7 @@ place_text (Line name line) = name ++ codes " line " ++ decimal line
 abbrev pub fault_line : Status → List ℕ
 fault_line Usage = codes "fault usage\n"
 fault_line (Layer file line why) = codes "fault layer " ++ file ++ codes " line " ++ decimal line ++ codes " " ++ why_word why ++ codes "\n"
+fault_line (Script line cause) = codes "fault script line " ++ decimal line ++ codes " " ++ script_word cause ++ codes "\n"
 fault_line (Limit place which count) = codes "fault limit " ++ word_of which ++ codes " " ++ decimal count ++ codes " at " ++ place_text place ++ codes "\n"
 fault_line (ReadFault name) = codes "fault read " ++ name ++ codes "\n"
 fault_line Done = []

@@ -1,11 +1,13 @@
-pub mod Acts
+pub mod CommandWords
 pub mod Commands
-pub mod DrawWords
 pub mod Endings
 pub mod Fans
 pub mod FaultLines
 pub mod Frames
+pub mod Lines
 pub mod Outcomes
 pub mod Outside
+pub mod Refusing
 pub mod RootDraws
 pub mod Runs
+pub mod Scripts

@@ -6,28 +6,22 @@ use Rattle.hd_picture.specs.Pixels.{picture}
 use Rattle.hd_picture.specs.Ppm.{ppm}
 use Rattle.hd_usda.specs.declared.fault.LayerWhy.{LayerWhy}
 use Rattle.hd_usda.specs.declared.fault.LayerWhy.TheVariants as why
-use Rattle.hd_usda.specs.declared.limits.Which.TheVariants.{Bytes}
+use Rattle.hd_usda.specs.declared.limits.Which.TheVariants.{Layers, Bytes}
 use Rattle.hd_usda.specs.declared.spec.LayerSpec.{LayerSpec}
 use Rattle.hd_usda.specs.Cursors.{Fault}
 use Rattle.hd_usda.specs.Layers.{reads}
 use Rattle.hd_usda.specs.Limits.{limit_of}
+use Rattle.hd_io.specs.Acts.{file, line}
 use Rattle.hd_io.specs.Files.{FileMap, bytes_of}
+use Rattle.hd_session.specs.States.{opened}
 use Rattle.hd_app.specs.declared.status.Status.{Status}
 use Rattle.hd_app.specs.declared.status.Status.TheVariants.{Done, Usage, Layer, Limit, ReadFault}
-use Rattle.hd_app.specs.declared.status.Place.TheVariants.{File, Line}
-use Rattle.hd_app.specs.Acts.{Act, file, line}
-use Rattle.hd_app.specs.Commands.{Draw, command}
-use Rattle.hd_app.specs.FaultLines.{fault_line}
-use Rattle.hd_app.specs.RootDraws.{root_draws}
+use Rattle.hd_app.specs.declared.status.Place.TheVariants.{Words, File, Line}
+use Rattle.hd_app.specs.Commands.{Program, draw, step, command}
 use Rattle.hd_app.specs.Outside.{byte_limit}
-
-pub record Outcome : Type 0 where
-  pub acts : List Act
-  pub ending : Status
-
--- a refusal tells itself by its line
-abbrev pub refused : Status → Outcome
-refused status = record { acts = line (fault_line status) ∷ []; ending = status }
+use Rattle.hd_app.specs.Refusing.{Outcome, refused}
+use Rattle.hd_app.specs.RootDraws.{root_draws}
+use Rattle.hd_app.specs.Scripts.{lines_of, outcome_of_lines}
 
 -- the place from which a frame is seen that names no camera
 abbrev pub default_eye : Vec3
@@ -69,13 +63,46 @@ layer_of_file name (Some bytes) = layer_of_bytes name bytes
 abbrev pub layer_in : FileMap → List ℕ → Result LayerSpec Status
 layer_in files name = layer_of_file name (bytes_of files name)
 
+-- the picture of a layer that was read
 abbrev pub drawn_if_read : List ℕ → Result LayerSpec Status → Outcome
 drawn_if_read out (Ok layer) = drawn out layer
 drawn_if_read out (Err status) = refused status
 
-abbrev pub outcome_of : FileMap → Option Draw → Outcome
+-- one more layer
+abbrev pub with_layer : Result LayerSpec Status → Result (List LayerSpec) Status → Result (List LayerSpec) Status
+with_layer (Ok layer) (Ok layers) = Ok (layer ∷ layers)
+with_layer (Ok layer) (Err status) = Err status
+with_layer (Err status) layers = Err status
+
+-- the layers of these names, or the refusal of the first that is refused
+abbrev pub layers_in : FileMap → List (List ℕ) → Result (List LayerSpec) Status
+layers_in files [] = Ok []
+layers_in files (name ∷ names) = with_layer (layer_in files name) (layers_in files names)
+
+-- the bytes of a script, or the refusal
+abbrev pub script_of_file : List ℕ → Option (List ℕ) → Result (List ℕ) Status
+script_of_file name None = Err (ReadFault name)
+script_of_file name (Some bytes) = if nat_lt byte_limit (length bytes) then Err (Limit (File name) Bytes byte_limit) else Ok bytes
+
+abbrev pub script_in : FileMap → List ℕ → Result (List ℕ) Status
+script_in files name = script_of_file name (bytes_of files name)
+
+-- the script of this name over layers, where all were read
+abbrev pub stepped_if_read : List ℕ → Result (List LayerSpec) Status → Result (List ℕ) Status → Outcome
+stepped_if_read name (Ok layers) (Ok script) = outcome_of_lines name 1 (opened layers) (lines_of script)
+stepped_if_read name (Ok layers) (Err status) = refused status
+stepped_if_read name (Err status) script = refused status
+
+-- the script over the layers; there are at most eight
+abbrev pub stepped : FileMap → List (List ℕ) → List ℕ → Outcome
+stepped files layers script =
+    if nat_lt (limit_of Layers) (length layers) then refused (Limit Words Layers (limit_of Layers))
+    else stepped_if_read script (layers_in files layers) (script_in files script)
+
+abbrev pub outcome_of : FileMap → Option Program → Outcome
 outcome_of files None = refused Usage
-outcome_of files (Some draw) = drawn_if_read draw.out (layer_in files draw.layer)
+outcome_of files (Some (draw layer out)) = drawn_if_read out (layer_in files layer)
+outcome_of files (Some (step layers script)) = stepped files layers script
 
 -- what is written for these words over these files, and the status
 abbrev pub outcome : List (List ℕ) → FileMap → Outcome

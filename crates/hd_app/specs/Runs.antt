@@ -1,9 +1,9 @@
 -- A run over a shelf that may fail.
-use Rattle.std.specs.Prelude.{◌≡◌, ◌+◌, ◌≤◌, ◌⊎◌, ℕ, List, Option, Some, None, IsSome, IfSome, IsSomeAnd, max, Err}
+use Rattle.std.specs.Prelude.{◌≡◌, ◌+◌, ◌<◌, ◌≤◌, ◌⊎◌, ℕ, List, length, take, slice_get, All, Contains, Option, Some, None, IsSome, IfSome, IsSomeAnd, IsOk, max, Err, Bool, false}
 use Rattle.hd_io.specs.Causes.{Rose}
 use Rattle.hd_io.specs.Files.{FileMap}
 use Rattle.hd_app.specs.declared.status.Status.{Status}
-use Rattle.hd_app.specs.declared.status.Status.TheVariants.{Done, Usage, Layer, Limit, ReadFault, WriteFault, NoMemory}
+use Rattle.hd_app.specs.declared.status.Status.TheVariants.{Done, Usage, Layer, Script, Limit, ReadFault, WriteFault, NoMemory}
 use Rattle.hd_app.specs.declared.status.Place.{Place}
 use Rattle.hd_app.specs.declared.status.Place.TheVariants.{Words, File, Line}
 use Rattle.hd_app.specs.declared.outside.ReadStop.{ReadStop}
@@ -13,13 +13,14 @@ use Rattle.hd_usda.specs.declared.fault.LayerFault.{LayerFault}
 use Rattle.hd_usda.specs.declared.fault.LayerFault.TheVariants.{At}
 use Rattle.hd_usda.specs.declared.fault.LayerFault.TheVariants as faults
 use Rattle.hd_usda.specs.declared.limits.Which.{Which}
-use Rattle.hd_usda.specs.declared.limits.Which.TheVariants.{Bytes}
+use Rattle.hd_usda.specs.declared.limits.Which.TheVariants.{Layers, Bytes}
 use Rattle.hd_usda.specs.Limits.{limit_of}
-use Rattle.hd_app.specs.Acts.{Outside, WroteCut}
-use Rattle.hd_app.specs.Commands.{Draw}
+use Rattle.hd_io.specs.Acts.{Outside, WroteCut}
+use Rattle.hd_app.specs.Commands.{Program, draw, step, layer_names, file_names}
 use Rattle.hd_app.specs.Endings.{Ends, IsReadFault}
-use Rattle.hd_app.specs.Outcomes.{Outcome, outcome_of, refused, refusal_at, layer_in, layer_of_bytes}
+use Rattle.hd_app.specs.Outcomes.{outcome_of, refusal_at, layer_in, layer_of_bytes, script_in}
 use Rattle.hd_app.specs.Outside.{byte_limit}
+use Rattle.hd_app.specs.Refusing.{Outcome, refused}
 
 -- what a shelf says of itself: its files where it tells them, its count of faults, the name that failed last, and the bytes taken
 pub record ShelfState : Type 0 where
@@ -42,18 +43,19 @@ pub record ReadsWithin (before now : ShelfState) : Type 0 where
   pub taken : now.taken ≤ max before.taken (byte_limit + 1)
 
 -- a limit that the file of this name passes: that of its bytes, of which one more was taken, or one in a line of its text
-abbrev pub PassesLimit : List ℕ → ShelfState → Place → Which → ℕ → Type 0
-PassesLimit name shelf (File file) which count = (file ≡ name) × (which ≡ Bytes) × (count ≡ byte_limit) × (shelf.taken ≡ byte_limit + 1)
-PassesLimit name shelf (Line file line) which count = (file ≡ name) × (count ≡ limit_of which)
-PassesLimit name shelf Words which count = ⊥
+abbrev pub FilePassesLimit : List ℕ → ShelfState → Place → Which → ℕ → Type 0
+FilePassesLimit name shelf (File file) which count = (file ≡ name) × (which ≡ Bytes) × (count ≡ byte_limit) × (shelf.taken ≡ byte_limit + 1)
+FilePassesLimit name shelf (Line file line) which count = (file ≡ name) × (count ≡ limit_of which)
+FilePassesLimit name shelf Words which count = ⊥
 
 -- why the layer of this name was refused
 abbrev pub RefusesLayer : List ℕ → (before now : ShelfState) → Status → Type 0
 RefusesLayer name before now (ReadFault file) = (file ≡ name) × FailedAt name before now
 RefusesLayer name before now (Layer file line why) = (now.faults ≡ before.faults) × (file ≡ name) × IfSome before.files (λ files. layer_in files name ≡ Err (Layer file line why))
 RefusesLayer name before now (Limit place which count) =
-    (now.faults ≡ before.faults) × PassesLimit name now place which count × IfSome before.files (λ files. layer_in files name ≡ Err (Limit place which count))
+    (now.faults ≡ before.faults) × FilePassesLimit name now place which count × IfSome before.files (λ files. layer_in files name ≡ Err (Limit place which count))
 RefusesLayer name before now NoMemory = now.faults ≡ before.faults
+RefusesLayer name before now (Script line cause) = ⊥
 RefusesLayer name before now Done = ⊥
 RefusesLayer name before now Usage = ⊥
 RefusesLayer name before now WriteFault = ⊥
@@ -77,43 +79,115 @@ RefusesBytes file bytes (ReadFault named) = ⊥
 RefusesBytes file bytes (Limit (Line named line) which count) = (named ≡ file) × (count ≡ limit_of which) × (layer_of_bytes file bytes ≡ Err (Limit (Line named line) which count))
 RefusesBytes file bytes (Limit (File named) which count) = ⊥
 RefusesBytes file bytes (Limit Words which count) = ⊥
+RefusesBytes file bytes (Script line cause) = ⊥
 RefusesBytes file bytes Done = ⊥
 RefusesBytes file bytes Usage = ⊥
 RefusesBytes file bytes WriteFault = ⊥
 
+-- the files of these names spell layers
+abbrev pub SpellLayers : FileMap → List (List ℕ) → Type 0
+SpellLayers files names = All (λ name. IsOk (layer_in files name)) names
+
+-- the layer of one of these names was refused, and those before it, where they are told, spell layers
+pub record RefusesOneLayer (names : List (List ℕ)) (before now : ShelfState) (status : Status) : Type 0 where
+  pub place : ℕ
+  pub name : List ℕ
+  pub named : slice_get names place ≡ Some name
+  pub before_it : IfSome before.files (λ files. SpellLayers files (take place names))
+  pub refusal : RefusesLayer name before now status
+
+-- why the layers of these names were refused: one of them was, or memory ran out
+abbrev pub RefusesLayers : List (List ℕ) → (before now : ShelfState) → Status → Type 0
+RefusesLayers names before now status = RefusesOneLayer names before now status ⊎ ((status ≡ NoMemory) × (now.faults ≡ before.faults))
+
+-- why the script of this name was not read
+abbrev pub RefusesScript : List ℕ → (before now : ShelfState) → Status → Type 0
+RefusesScript name before now (ReadFault file) = (file ≡ name) × FailedAt name before now
+RefusesScript name before now (Limit place which count) =
+    (now.faults ≡ before.faults) × (place ≡ File name) × (which ≡ Bytes) × (count ≡ byte_limit) × (now.taken ≡ byte_limit + 1)
+    × IfSome before.files (λ files. script_in files name ≡ Err (Limit place which count))
+RefusesScript name before now NoMemory = now.faults ≡ before.faults
+RefusesScript name before now (Layer file line why) = ⊥
+RefusesScript name before now (Script line cause) = ⊥
+RefusesScript name before now Done = ⊥
+RefusesScript name before now Usage = ⊥
+RefusesScript name before now WriteFault = ⊥
+
+-- the file of this name is one that the command reads, and those that are read before it, where they are told, spell layers
+pub record IsReached (program : Program) (files : Option FileMap) (file : List ℕ) : Type 0 where
+  pub place : ℕ
+  pub named : slice_get (file_names program) place ≡ Some file
+  pub before : IfSome files (λ map. SpellLayers map (take place (file_names program)))
+
+-- a limit that is passed: that of the layers, by the words; that of the bytes of a file, of which one more was taken; or one
+-- in a line of a file
+abbrev pub PassesLimit : Program → ShelfState → Place → Which → ℕ → Type 0
+PassesLimit program shelf Words which count = (which ≡ Layers) × (count ≡ limit_of Layers) × (count < length (layer_names program))
+PassesLimit program shelf (File file) which count = Contains (file_names program) file × (which ≡ Bytes) × (count ≡ byte_limit) × (shelf.taken ≡ byte_limit + 1)
+PassesLimit program shelf (Line file line) which count = Contains (file_names program) file × (count ≡ limit_of which)
+
+abbrev pub HasScript : Program → Type 0
+HasScript (draw layer out) = ⊥
+HasScript (step layers script) = Unit {0}
+
 -- what an answer says of itself, whether or not the files are told
-abbrev pub IsAnswerTo : Option Draw → ShelfState → Status → Type 0
-IsAnswerTo draw shelf Done = IsSome draw
-IsAnswerTo draw shelf Usage = draw ≡ None
-IsAnswerTo draw shelf (Layer file line why) = IsSomeAnd draw (λ d. file ≡ d.layer)
-IsAnswerTo draw shelf (Limit place which count) = IsSomeAnd draw (λ d. PassesLimit d.layer shelf place which count)
-IsAnswerTo draw shelf (ReadFault file) = IsSomeAnd draw (λ d. file ≡ d.layer) × (shelf.failed ≡ Some file)
-IsAnswerTo draw shelf WriteFault = Unit {0}
-IsAnswerTo draw shelf NoMemory = Unit {0}
+abbrev pub IsAnswerTo : Option Program → ShelfState → Status → Type 0
+IsAnswerTo program shelf Done = IsSome program
+IsAnswerTo program shelf Usage = program ≡ None
+IsAnswerTo program shelf (Layer file line why) = IsSomeAnd program (λ p. Contains (layer_names p) file)
+IsAnswerTo program shelf (Script line cause) = IsSomeAnd program HasScript
+IsAnswerTo program shelf (Limit place which count) = IsSomeAnd program (λ p. PassesLimit p shelf place which count)
+IsAnswerTo program shelf (ReadFault file) = IsSomeAnd program (λ p. IsReached p shelf.files file) × (shelf.failed ≡ Some file)
+IsAnswerTo program shelf WriteFault = Unit {0}
+IsAnswerTo program shelf NoMemory = Unit {0}
+
+-- a refusal by the words or the files of a command, which tells all that the command writes
+pub record TellsRefusal (program : Program) (before now : ShelfState) (status : Status) : Type 0 where
+  pub faults : now.faults ≡ before.faults
+  pub answer : IsAnswerTo (Some program) now status
+  pub told : IfSome before.files (λ files. outcome_of files (Some program) ≡ refused status)
+
+-- why the files of a command were not read
+abbrev pub RefusesFiles : Program → (before now : ShelfState) → Status → Type 0
+RefusesFiles program before now (ReadFault file) = IsReached program before.files file × FailedAt file before now
+RefusesFiles program before now (Layer file line why) = TellsRefusal program before now (Layer file line why)
+RefusesFiles program before now (Limit place which count) = TellsRefusal program before now (Limit place which count)
+RefusesFiles program before now NoMemory = now.faults ≡ before.faults
+RefusesFiles program before now (Script line cause) = ⊥
+RefusesFiles program before now Done = ⊥
+RefusesFiles program before now Usage = ⊥
+RefusesFiles program before now WriteFault = ⊥
 
 -- the shelf did not fail, and the run ended by an outcome, which is that of the files where they are told
-pub record RunsByFiles (draw : Option Draw) (shelf_before shelf_now : ShelfState) (before now : Outside) (status : Status) : Type 0 where
+pub record RunsByFiles (program : Option Program) (shelf_before shelf_now : ShelfState) (before now : Outside) (status : Status) : Type 0 where
   pub due : Outcome
   pub ends : Ends due before now status
-  pub told : IfSome shelf_before.files (λ files. outcome_of files draw ≡ due)
+  pub told : IfSome shelf_before.files (λ files. outcome_of files program ≡ due)
   pub faults : shelf_now.faults ≡ shelf_before.faults
-  pub answer : IsAnswerTo draw shelf_now status
+  pub answer : IsAnswerTo program shelf_now status
   pub read : IsReadFault status → ⊥
   pub write : status ≡ WriteFault → Rose before.rack_faults now.rack_faults ⊎ Rose before.sink_faults now.sink_faults
 
--- the shelf failed at the layer's file, and the run ended by telling that
-pub record RunsIntoFault (draw : Option Draw) (shelf_before shelf_now : ShelfState) (before now : Outside) (status : Status) : Type 0 where
-  pub layer : List ℕ
-  pub named : IsSomeAnd draw (λ d. layer ≡ d.layer)
-  pub failed : FailedAt layer shelf_before shelf_now
-  pub ends : Ends (refused (ReadFault layer)) before now status
+-- the shelf failed at a file, and the run ended by telling that
+pub record RunsIntoFault (program : Option Program) (shelf_before shelf_now : ShelfState) (before now : Outside) (status : Status) : Type 0 where
+  pub file : List ℕ
+  pub reached : IsSomeAnd program (λ p. IsReached p shelf_before.files file)
+  pub failed : FailedAt file shelf_before shelf_now
+  pub ends : Ends (refused (ReadFault file)) before now status
 
-abbrev pub Runs : Option Draw → (shelf_before shelf_now : ShelfState) → (before now : Outside) → Status → Type 0
-Runs draw shelf_before shelf_now before now status =
-    RunsByFiles draw shelf_before shelf_now before now status ⊎ RunsIntoFault draw shelf_before shelf_now before now status
+abbrev pub Runs : Option Program → (shelf_before shelf_now : ShelfState) → (before now : Outside) → Status → Type 0
+Runs program shelf_before shelf_now before now status =
+    RunsByFiles program shelf_before shelf_now before now status ⊎ RunsIntoFault program shelf_before shelf_now before now status
 
 -- what a run that was broken off has written: a beginning of what its files make it write, or, where the shelf failed, of the line that tells that
-abbrev pub BrokeOff : Option Draw → FileMap → (shelf_before shelf_now : ShelfState) → (before now : Outside) → Type 0
-BrokeOff draw files shelf_before shelf_now before now =
-    WroteCut (outcome_of files draw).acts before now
+abbrev pub BrokeOff : Option Program → FileMap → (shelf_before shelf_now : ShelfState) → (before now : Outside) → Type 0
+BrokeOff program files shelf_before shelf_now before now =
+    WroteCut (outcome_of files program).acts before now
     ⊎ (Rose shelf_before.faults shelf_now.faults × IsSomeAnd shelf_now.failed (λ name. WroteCut (refused (ReadFault name)).acts before now))
+
+-- whether the rack's last file is open behind a command that was done: one that draws has closed its file, and a script has
+-- made none
+abbrev pub LeavesOpen : Option Program → (before now : Bool) → Type 0
+LeavesOpen None before now = ⊥
+LeavesOpen (Some (draw layer out)) before now = now ≡ false
+LeavesOpen (Some (step layers script)) before now = now ≡ before

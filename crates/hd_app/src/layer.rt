@@ -1,6 +1,7 @@
 //! Layers, read by the names of their files.
 
-ghost use Rattle.std.specs.Prelude.{◌≡◌, ◌≤◌, length, IfOk, IfErr, IfSome, OnOk, Ok};
+ghost use Rattle.std.specs.Prelude.{◌≡◌, ◌≤◌, length, IfOk, IfErr, IfSome, IsTrue, OnOk, Ok};
+ghost use Rattle.hd_usda.specs.WellFormed.{is_layer};
 ghost use Rattle.hd_app.specs.Outcomes.{layer_in, layer_of_bytes, refusal_at};
 ghost use Rattle.hd_app.specs.Outside.{byte_limit};
 ghost use Rattle.hd_app.specs.Runs.{shelf_state, status_of_stop, status_of_fault, RefusesBytes, RefusesLayer, ReadsWithin};
@@ -13,14 +14,14 @@ use hd_usda::{LayerFault, LayerSpec, LayerWhy, Which};
 use std::alloc::{AllocError, Global};
 
 /// The bytes of a name.
-fn name_of(alloc: Global, name: &str) -> Result<List<u8>, AllocError>
+pub fn name_of(alloc: Global, name: &str) -> Result<List<u8>, AllocError>
     ensures { IfOk result (λ list. list ≡ name.now) }
 {
     List::of(alloc, Vec::from_slice(alloc, name.as_bytes())?)
 }
 
 /// The refusal of a file that was not read to its end.
-fn stopped(file: List<u8>, stop: ReadStop) -> Status
+pub fn stopped(file: List<u8>, stop: ReadStop) -> Status
     ensures { result ≡ status_of_stop file stop }
 {
     match stop {
@@ -61,6 +62,7 @@ fn unread(file: List<u8>, fault: LayerFault) -> Status
 /// Reads the layer of this name.
 pub fn read_layer<S: Shelf>(alloc: Global, shelf: &mut S, name: &str) -> Result<LayerSpec, Status>
     ensures layer { IfOk result (λ layer. IfSome (S.files shelf.old) (λ files. layer_in files name.now ≡ Ok layer)) }
+    ensures formed { IfOk result (λ layer. IsTrue (is_layer layer)) }
     ensures kept { OnOk result (S.faults shelf.new ≡ S.faults shelf.old) }
     ensures refusal { IfErr result (RefusesLayer name.now
         (shelf_state (S.files shelf.old) (S.faults shelf.old) (S.failed shelf.old) (S.taken shelf.old))
@@ -82,6 +84,7 @@ pub fn read_layer<S: Shelf>(alloc: Global, shelf: &mut S, name: &str) -> Result<
 fn spelled(alloc: Global, file: List<u8>, bytes: &[u8]) -> Result<LayerSpec, Status>
     requires { length bytes.now ≤ byte_limit }
     ensures layer { IfOk result (λ layer. layer_of_bytes file bytes.now ≡ Ok layer) }
+    ensures formed { IfOk result (λ layer. IsTrue (is_layer layer)) }
     ensures refusal { IfErr result (RefusesBytes file bytes.now) }
 {
     match hd_usda::read_layer(alloc, bytes) {

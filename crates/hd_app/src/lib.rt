@@ -2,12 +2,20 @@
 #![tactic(auto)]
 
 mod frame;
+mod inputs;
 mod layer;
 #[cfg(test)]
 mod layer_tests;
 mod meshes;
 mod outside;
+#[cfg(test)]
+mod refusal_tests;
+mod script;
+#[cfg(test)]
+mod script_tests;
 mod status;
+#[cfg(test)]
+mod step_tests;
 #[cfg(test)]
 mod tests;
 mod top;

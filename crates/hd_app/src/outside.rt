@@ -1,13 +1,12 @@
-//! Files and lines, read and written whole.
+//! Files, read whole.
 
-ghost use Rattle.std.specs.Prelude.{◌≡◌, ◌+◌, ◌≤◌, false, max, IfOk, OnOk, OnErr, IsErrOf, IsTrue, IsSome, IfSome, Some, vec_len};
-ghost use Rattle.std.specs.Option.{option_map};
-ghost use Rattle.hd_io.specs.Causes.{Rose, HasCause};
-ghost use Rattle.hd_io.specs.Files.{open_bytes, with_bytes};
+ghost use Rattle.std.specs.Prelude.{◌≡◌, ◌+◌, ◌≤◌, max, IfOk, IsErrOf, IsSome, IfSome, Some, vec_len};
+ghost use Rattle.hd_io.specs.Causes.{Rose};
+ghost use Rattle.hd_io.specs.Files.{open_bytes};
 ghost use Rattle.hd_app.specs.declared.outside.ReadStop.TheVariants.{NoMemory};
-ghost use Rattle.hd_app.specs.Outside.{byte_limit, Holds, HoldsTooMuch, HoldsOpen, HoldsOpenTooMuch, UnlessFailed, StopsAs, with_line, with_whole, CutLine, CutBytes, CutFile};
+ghost use Rattle.hd_app.specs.Outside.{byte_limit, Holds, HoldsTooMuch, HoldsOpen, HoldsOpenTooMuch, UnlessFailed, StopsAs};
 
-use hd_io::{OutsideFault, Rack, Shelf, Sink};
+use hd_io::{OutsideFault, Shelf};
 use std::alloc::{AllocError, Global};
 
 /// The most bytes that a layer may have.
@@ -44,49 +43,6 @@ impl From<AllocError> for ReadStop {
     fn from(_error: AllocError) -> ReadStop {
         ReadStop::NoMemory
     }
-}
-
-/// Writes a line to the end of the sink.
-pub fn write_line<O: Sink>(out: &mut O, line: &[u8]) -> Result<(), OutsideFault>
-    ensures written { OnOk result (O.held out.new ≡ with_line line.now (O.held out.old)) }
-    ensures cut { OnErr result (CutLine line.now (O.held out.old) (O.held out.new)) }
-    ensures cause { HasCause (O.faults out.old) (O.faults out.new) result }
-{
-    let mut written = 0;
-    'writing: while written < line.len() {
-        let (_, rest) = line.split_at(written);
-        written += out.write(rest)?;
-    }
-    Ok(())
-}
-
-/// Writes the bytes to the end of the rack's last file, which is open.
-fn write_bytes<R: Rack>(rack: &mut R, bytes: &[u8]) -> Result<(), OutsideFault>
-    requires { IsTrue (R.is_open rack.old) }
-    ensures written { OnOk result (R.held rack.new ≡ option_map (with_bytes bytes.now) (R.held rack.old)) }
-    ensures cut { OnErr result (CutBytes bytes.now (R.held rack.old) (R.held rack.new)) }
-    ensures open { IsTrue (R.is_open rack.new) }
-    ensures cause { HasCause (R.faults rack.old) (R.faults rack.new) result }
-{
-    let mut written = 0;
-    'writing: while written < bytes.len() {
-        let (_, rest) = bytes.split_at(written);
-        written += rack.write(rest)?;
-    }
-    Ok(())
-}
-
-/// Writes one file whole.
-pub fn write_file<R: Rack>(rack: &mut R, name: &str, bytes: &[u8]) -> Result<(), OutsideFault>
-    ensures written { OnOk result (R.held rack.new ≡ with_whole name.now bytes.now (R.held rack.old)) }
-    ensures closed { OnOk result (R.is_open rack.new ≡ false) }
-    ensures cut { OnErr result (CutFile name.now bytes.now (R.held rack.old) (R.held rack.new)) }
-    ensures cause { HasCause (R.faults rack.old) (R.faults rack.new) result }
-{
-    rack.create(name)?;
-    write_bytes(rack, bytes)?;
-    rack.finish()?;
-    Ok(())
 }
 
 /// Reads a file whole, in pieces, and gives up once it has taken one byte more than the limit.

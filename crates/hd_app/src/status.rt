@@ -2,11 +2,13 @@
 
 ghost use Rattle.std.specs.Prelude.{◌≡◌, ◌++◌, IfOk, OnOk, codes, decimal};
 ghost use Rattle.hd_usda.specs.Limits.{word_of};
-ghost use Rattle.hd_app.specs.FaultLines.{number_of, why_word, place_text, fault_line};
+ghost use Rattle.hd_app.specs.declared.status.Status.TheVariants.{NoMemory};
+ghost use Rattle.hd_app.specs.FaultLines.{number_of, why_word, script_word, place_text, fault_line};
 
 use hd_num::List;
+use hd_session::ScriptWhy;
 use hd_usda::{LayerWhy, Which};
-use std::alloc::{AllocError, Global};
+use std::alloc::{AllocError, AllocFailed, Global};
 
 /// Where a limit was passed.
 #[derive(Drop)]
@@ -32,6 +34,11 @@ pub enum Status {
         line: u32,
         why: LayerWhy,
     },
+    /// This line of the script, counted from 1, is refused.
+    Script {
+        line: u32,
+        why: ScriptWhy,
+    },
     /// A quantity passes its limit, which is this number.
     Limit {
         place: Place,
@@ -48,6 +55,14 @@ pub enum Status {
     NoMemory,
 }
 
+impl<T: Drop> From<AllocFailed<T>> for Status {
+    ghost from_gives = { λ _ status. status ≡ NoMemory };
+
+    fn from(_refused: AllocFailed<T>) -> Status {
+        Status::NoMemory
+    }
+}
+
 impl Status {
     /// What the program ends with.
     pub fn number(&self) -> u8
@@ -57,6 +72,7 @@ impl Status {
             Status::Done => 0,
             Status::Usage => 1,
             Status::Layer { .. } => 2,
+            Status::Script { .. } => 3,
             Status::Limit { .. } => 4,
             Status::ReadFault { .. } => 5,
             Status::WriteFault => 6,
@@ -74,6 +90,7 @@ impl Status {
             Status::Layer { file, line, why } => {
                 push_layer(alloc, &mut text, file.items(), *line, *why)?;
             }
+            Status::Script { line, why } => push_script(alloc, &mut text, *line, *why)?,
             Status::Limit {
                 place,
                 which,
@@ -118,6 +135,41 @@ fn push_layer(
     text.extend_from_slice(line.to_string(alloc)?.as_bytes())?;
     text.extend_from_slice(b" ")?;
     text.extend_from_slice(why_word(why).as_bytes())?;
+    text.extend_from_slice(b"\n")?;
+    Ok(())
+}
+
+/// The word for what is wrong with a line of a script.
+fn script_word(why: ScriptWhy) -> &'static str
+    ensures { result.now ≡ script_word why }
+{
+    match why {
+        ScriptWhy::Syntax => "syntax",
+        ScriptWhy::NoPrim => "no-prim",
+        ScriptWhy::PrimThere => "prim-there",
+        ScriptWhy::UnderItself => "under-itself",
+        ScriptWhy::NoLayer => "no-layer",
+        ScriptWhy::NoCamera => "no-camera",
+        ScriptWhy::LeftOut => "left-out",
+        ScriptWhy::Fraction => "fraction",
+        ScriptWhy::Later => "later",
+    }
+}
+
+/// Adds the line of a script's fault.
+fn push_script(
+    alloc: Global,
+    text: &mut Vec<u8>,
+    line: u32,
+    why: ScriptWhy,
+) -> Result<(), AllocError>
+    ensures { OnOk result (text.new.items ≡ text.old.items
+        ++ (codes "fault script line " ++ decimal line ++ codes " " ++ script_word why ++ codes "\n")) }
+{
+    text.extend_from_slice(b"fault script line ")?;
+    text.extend_from_slice(line.to_string(alloc)?.as_bytes())?;
+    text.extend_from_slice(b" ")?;
+    text.extend_from_slice(script_word(why).as_bytes())?;
     text.extend_from_slice(b"\n")?;
     Ok(())
 }

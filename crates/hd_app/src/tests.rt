@@ -7,11 +7,13 @@ use crate::status::Status;
 use crate::top::top_plain;
 use hd_io::{MemoryRack, MemoryShelf, MemorySink};
 use hd_num::List;
+use hd_session::ScriptWhy;
 use hd_usda::{LayerWhy, Which, read_layer};
 use std::alloc::{AllocError, Global};
 use std::test::Fail;
 
-const TRIANGLE: &[u8] = b"#usda 1.0
+/// A triangle at the middle of the world.
+pub const TRIANGLE: &[u8] = b"#usda 1.0
 def Mesh \"T\"
 {
     int[] faceVertexCounts = [3]
@@ -25,13 +27,14 @@ const AMPLE: usize = 1 << 24;
 
 /// The calls that fail, and the most bytes that one call moves, of an object.
 #[derive(Clone, Copy)]
-struct Plan {
-    failing: Option<u64>,
-    piece: usize,
+pub struct Plan {
+    pub failing: Option<u64>,
+    pub piece: usize,
     ghost moves: { 1 ≤ piece },
 }
 
-const NO_FAULT: Plan = Plan {
+/// No call fails.
+pub const NO_FAULT: Plan = Plan {
     failing: None,
     piece: AMPLE,
 };
@@ -62,21 +65,52 @@ fn words_of(alloc: Global, words: &[&str]) -> Result<Vec<String>, AllocError> {
     Ok(all)
 }
 
-/// Runs the words over a shelf that holds the one file `a`.
-fn run(
+/// The text of the layer of this number, if there is one.
+fn text_at(alloc: Global, layers: &[&[u8]], number: usize) -> Result<Vec<u8>, AllocError> {
+    match layers.get(number) {
+        Some(text) => Vec::from_slice(alloc, text),
+        None => Ok(Vec::new(alloc)),
+    }
+}
+
+/// A shelf with the layers under the names from `a` to `i`, and the script under the name `s`. A layer that is not there
+/// has no bytes.
+fn shelf_of(
+    alloc: Global,
+    layers: &[&[u8]],
+    script: &[u8],
+    plan: Plan,
+) -> Result<MemoryShelf, AllocError> {
+    let files = vec![in alloc;
+        (String::from_str(alloc, "a")?, text_at(alloc, layers, 0)?),
+        (String::from_str(alloc, "b")?, text_at(alloc, layers, 1)?),
+        (String::from_str(alloc, "c")?, text_at(alloc, layers, 2)?),
+        (String::from_str(alloc, "d")?, text_at(alloc, layers, 3)?),
+        (String::from_str(alloc, "e")?, text_at(alloc, layers, 4)?),
+        (String::from_str(alloc, "f")?, text_at(alloc, layers, 5)?),
+        (String::from_str(alloc, "g")?, text_at(alloc, layers, 6)?),
+        (String::from_str(alloc, "h")?, text_at(alloc, layers, 7)?),
+        (String::from_str(alloc, "i")?, text_at(alloc, layers, 8)?),
+        (
+            String::from_str(alloc, "s")?,
+            Vec::from_slice(alloc, script)?
+        ),
+    ]?;
+    Ok(MemoryShelf::new(alloc, files, failing(alloc, plan)?, plan.piece))
+}
+
+/// Runs the words over such a shelf.
+pub fn run_words(
     alloc: Global,
     words: &[&str],
-    text: &[u8],
-    shelf_plan: Plan,
-    rack_plan: Plan,
-    sink_plan: Plan,
+    layers: &[&[u8]],
+    script: &[u8],
+    plans: [Plan; 3],
 ) -> Result<Outcome, AllocError> {
     let words = words_of(alloc, words)?;
-    let file = (String::from_str(alloc, "a")?, Vec::from_slice(alloc, text)?);
-    let files = vec![in alloc; file]?;
-    let mut shelf = MemoryShelf::new(alloc, files, failing(alloc, shelf_plan)?, shelf_plan.piece);
-    let mut rack = MemoryRack::new(alloc, failing(alloc, rack_plan)?, rack_plan.piece);
-    let mut out = MemorySink::new(alloc, failing(alloc, sink_plan)?, sink_plan.piece);
+    let mut shelf = shelf_of(alloc, layers, script, plans[0])?;
+    let mut rack = MemoryRack::new(alloc, failing(alloc, plans[1])?, plans[1].piece);
+    let mut out = MemorySink::new(alloc, failing(alloc, plans[2])?, plans[2].piece);
     let status = top_plain(alloc, &words, &mut shelf, &mut rack, &mut out);
     let mut name = Vec::new(alloc);
     let mut picture = Vec::new(alloc);
@@ -92,6 +126,42 @@ fn run(
         picture,
         line: Vec::from_slice(alloc, out.bytes())?,
     })
+}
+
+/// Runs the words over a shelf with one layer.
+fn run(
+    alloc: Global,
+    words: &[&str],
+    text: &[u8],
+    shelf_plan: Plan,
+    rack_plan: Plan,
+    sink_plan: Plan,
+) -> Result<Outcome, AllocError> {
+    run_words(
+        alloc,
+        words,
+        &[text],
+        b"".as_slice(),
+        [shelf_plan, rack_plan, sink_plan],
+    )
+}
+
+/// Runs a script over layers, of which the first is the strongest.
+pub fn step(alloc: Global, layers: &[&[u8]], script: &[u8]) -> Result<Outcome, AllocError> {
+    let names = ["a", "b", "c", "d", "e", "f", "g", "h", "i"];
+    let mut words = Vec::new(alloc);
+    words.push("step")?;
+    for name in names.iter().take(layers.len()) {
+        words.push(*name)?;
+    }
+    words.push("s")?;
+    run_words(
+        alloc,
+        &words,
+        layers,
+        script,
+        [NO_FAULT, NO_FAULT, NO_FAULT],
+    )
 }
 
 pub fn draw(alloc: Global, text: &[u8]) -> Result<Outcome, AllocError> {
@@ -205,7 +275,12 @@ fn refusals_are_told_by_a_line(rt: HostRuntime) -> Result<(), Fail> {
             1,
             b"fault usage\n",
         ),
-        (&["step", "a", "out.ppm"], TRIANGLE, 1, b"fault usage\n"),
+        (
+            &["step", "a", "out.ppm"],
+            TRIANGLE,
+            5,
+            b"fault read out.ppm\n",
+        ),
     ];
     for (words, text, status, line) in table {
         let outcome = run(alloc, words, text, NO_FAULT, NO_FAULT, NO_FAULT)?;
@@ -328,6 +403,14 @@ fn statuses_have_their_numbers(rt: HostRuntime) -> Result<(), Fail> {
         }
         .number(),
         2
+    );
+    assert_eq!(rt;
+        Status::Script {
+            line: 1,
+            why: ScriptWhy::Syntax
+        }
+        .number(),
+        3
     );
     assert_eq!(rt;
         Status::Limit {

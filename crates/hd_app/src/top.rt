@@ -1,18 +1,20 @@
 //! The call that the program makes.
 
-ghost use Rattle.std.specs.Prelude.{◌≡◌, ◌+◌, ◌≤◌, ◌⊎◌, Some, IfSome, false, map, max, string_bytes};
+ghost use Rattle.std.specs.Prelude.{◌≡◌, ◌+◌, ◌≤◌, ◌⊎◌, Some, IfSome, false, length, map, max, string_bytes};
 ghost use Rattle.hd_io.specs.Causes.{Rose};
-ghost use Rattle.hd_app.specs.Acts.{outside, Wrote, NoFault};
+ghost use Rattle.hd_io.specs.Acts.{outside, Wrote, NoFault};
 ghost use Rattle.hd_app.specs.Endings.{EndsWhole, IsDecided, IsReadFault, IsBrokenOff};
-ghost use Rattle.hd_app.specs.Outcomes.{outcome, refused};
+ghost use Rattle.hd_app.specs.Outcomes.{outcome};
+ghost use Rattle.hd_app.specs.Refusing.{refused};
 ghost use Rattle.hd_app.specs.Outside.{byte_limit};
-ghost use Rattle.hd_app.specs.Commands.{command};
-ghost use Rattle.hd_app.specs.DrawWords.{draw_seen};
-ghost use Rattle.hd_app.specs.Runs.{shelf_state, ReadsWithin, Runs, IsAnswerTo, BrokeOff};
+ghost use Rattle.hd_app.specs.Commands.{command, draw, step};
+ghost use Rattle.hd_app.specs.Runs.{shelf_state, ReadsWithin, Runs, IsAnswerTo, LeavesOpen, BrokeOff};
 
+use crate::inputs::read_inputs;
 use crate::layer::read_layer;
+use crate::script::run_over;
 use crate::status::Status;
-use crate::words::{DrawWords, command};
+use crate::words::{CommandWords, command};
 use crate::writing::{refuse, show};
 use hd_io::{Rack, Shelf, Sink};
 use std::alloc::Global;
@@ -20,12 +22,13 @@ use std::alloc::Global;
 /// Draws one layer.
 fn draw<S: Shelf, R: Rack, O: Sink>(
     alloc: Global,
-    words: DrawWords<'_>,
+    layer: &str,
+    name: &str,
     shelf: &mut S,
     rack: &mut R,
     out: &mut O,
 ) -> Status
-    ensures runs { Runs (Some (draw_seen words.entry))
+    ensures runs { Runs (Some (draw layer.now name.now))
         (shelf_state (S.files shelf.old) (S.faults shelf.old) (S.failed shelf.old) (S.taken shelf.old))
         (shelf_state (S.files shelf.new) (S.faults shelf.new) (S.failed shelf.new) (S.taken shelf.new))
         (outside (R.held rack.old) (R.faults rack.old) (O.held out.old) (O.faults out.old))
@@ -35,8 +38,34 @@ fn draw<S: Shelf, R: Rack, O: Sink>(
         (shelf_state (S.files shelf.new) (S.faults shelf.new) (S.failed shelf.new) (S.taken shelf.new)) }
     ensures closed { result ≡ Status.Done → R.is_open rack.new ≡ false }
 {
-    match read_layer(alloc, shelf, words.layer) {
-        Ok(layer) => show(alloc, &layer, words.out, rack, out),
+    match read_layer(alloc, shelf, layer) {
+        Ok(layer) => show(alloc, &layer, name, rack, out),
+        Err(refusal) => refuse(alloc, refusal, out),
+    }
+}
+
+/// Runs a script over layers, of which the first is the strongest.
+fn step<S: Shelf, R: Rack, O: Sink>(
+    alloc: Global,
+    layers: &[String],
+    script: &str,
+    shelf: &mut S,
+    rack: &mut R,
+    out: &mut O,
+) -> Status
+    requires { 1 ≤ length layers.now }
+    ensures runs { Runs (Some (step (map string_bytes layers.now) script.now))
+        (shelf_state (S.files shelf.old) (S.faults shelf.old) (S.failed shelf.old) (S.taken shelf.old))
+        (shelf_state (S.files shelf.new) (S.faults shelf.new) (S.failed shelf.new) (S.taken shelf.new))
+        (outside (R.held rack.old) (R.faults rack.old) (O.held out.old) (O.faults out.old))
+        (outside (R.held rack.new) (R.faults rack.new) (O.held out.new) (O.faults out.new)) result }
+    ensures within { ReadsWithin
+        (shelf_state (S.files shelf.old) (S.faults shelf.old) (S.failed shelf.old) (S.taken shelf.old))
+        (shelf_state (S.files shelf.new) (S.faults shelf.new) (S.failed shelf.new) (S.taken shelf.new)) }
+    ensures open { R.is_open rack.new ≡ R.is_open rack.old }
+{
+    match read_inputs(alloc, shelf, layers, script) {
+        Ok((layers, bytes)) => run_over(alloc, layers, script, &bytes, rack, out),
         Err(refusal) => refuse(alloc, refusal, out),
     }
 }
@@ -57,10 +86,13 @@ fn run<S: Shelf, R: Rack, O: Sink>(
     ensures within { ReadsWithin
         (shelf_state (S.files shelf.old) (S.faults shelf.old) (S.failed shelf.old) (S.taken shelf.old))
         (shelf_state (S.files shelf.new) (S.faults shelf.new) (S.failed shelf.new) (S.taken shelf.new)) }
-    ensures closed { result ≡ Status.Done → R.is_open rack.new ≡ false }
+    ensures open { result ≡ Status.Done → LeavesOpen (command (map string_bytes words.now)) (R.is_open rack.old) (R.is_open rack.new) }
 {
     match command(words) {
-        Some(words) => draw(alloc, words, shelf, rack, out),
+        Some(CommandWords::Draw { layer, out: name }) => draw(alloc, layer, name, shelf, rack, out),
+        Some(CommandWords::Step { layers, script }) => step(
+            alloc, layers, script, shelf, rack, out,
+        ),
         None => refuse(alloc, Status::Usage, out),
     }
 }
@@ -68,8 +100,10 @@ fn run<S: Shelf, R: Rack, O: Sink>(
 /// Does what the words of the command line say, those behind the program's name, and answers how it ended.
 ///
 /// `draw LAYER OUT` reads the layer from the file `LAYER`, draws its meshes to a picture of 64 by 64 pixels, writes
-/// that to the file `OUT`, and then the line of its frame. Other words are no command. A refusal writes the one line
-/// that tells it. Where a write fails or memory runs out, nothing more is written.
+/// that to the file `OUT`, and then the line of its frame. `step LAYER.. SCRIPT` reads one to eight layers, of which the
+/// first is the strongest, and does what the lines of the file `SCRIPT` say, one after the other. Other words are no
+/// command. A refusal writes the one line that tells it, behind what was written before. Where a write fails or memory
+/// runs out, nothing more is written.
 pub fn top_plain<S: Shelf, R: Rack, O: Sink>(
     alloc: Global,
     words: &[String],
@@ -81,7 +115,8 @@ pub fn top_plain<S: Shelf, R: Rack, O: Sink>(
     ensures outcome { IsDecided result → IfSome (S.files shelf.old) (λ files. EndsWhole (outcome (map string_bytes words.now) files)
         (outside (R.held rack.old) (R.faults rack.old) (O.held out.old) (O.faults out.old))
         (outside (R.held rack.new) (R.faults rack.new) (O.held out.new) (O.faults out.new)) result) }
-    ensures closed { result ≡ Status.Done → R.is_open rack.new ≡ false }
+    // A command that draws leaves no file open, and a script opens none.
+    ensures closed { result ≡ Status.Done → LeavesOpen (command (map string_bytes words.now)) (R.is_open rack.old) (R.is_open rack.new) }
     ensures unfailed_shelf { IsDecided result → S.faults shelf.new ≡ S.faults shelf.old }
     ensures unfailed { IsDecided result → NoFault
         (outside (R.held rack.old) (R.faults rack.old) (O.held out.old) (O.faults out.old))

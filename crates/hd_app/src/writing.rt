@@ -3,16 +3,16 @@
 ghost use Rattle.std.specs.Prelude.{◌≡◌, [], ◌∷◌, false, ℕ, List, Option, IfOk, IfErr, OnOk, OnErr};
 ghost use Rattle.hd_io.specs.Causes.{HasCause};
 ghost use Rattle.hd_io.specs.Files.{FileList};
-ghost use Rattle.hd_app.specs.Acts.{outside, file, line, Wrote, WroteCut, NoFault};
-ghost use Rattle.hd_app.specs.Endings.{Ends, WriteCause, status_of_write};
+ghost use Rattle.hd_io.specs.Acts.{outside, file, line, Wrote, WroteCut, WriteCause, NoFault};
+ghost use Rattle.hd_app.specs.Endings.{Ends, IsBrokenOff, status_of_write};
 ghost use Rattle.hd_app.specs.FaultLines.{fault_line};
-ghost use Rattle.hd_app.specs.Outcomes.{refused, drawn, frame_line};
-ghost use Rattle.hd_app.specs.Outside.{with_line, CutLine};
+ghost use Rattle.hd_app.specs.Outcomes.{drawn, frame_line};
+ghost use Rattle.hd_app.specs.Refusing.{refused};
+ghost use Rattle.hd_io.specs.Writing.{with_line, CutLine};
 
 use crate::frame::picture_file;
-use crate::outside::{write_file, write_line};
 use crate::status::Status;
-use hd_io::{OutsideFault, Rack, Sink};
+use hd_io::{OutsideFault, Rack, Sink, write_file, write_line};
 use hd_usda::LayerSpec;
 use std::alloc::{AllocError, Global};
 
@@ -38,12 +38,18 @@ fn write_refusal<O: Sink>(alloc: Global, refusal: &Status, out: &mut O) -> Resul
     }
 }
 
-/// Writes the line of a refusal, and answers the refusal.
+/// Writes the line of a refusal, and answers the refusal. A run that was broken off writes nothing more.
 pub fn refuse<O: Sink>(alloc: Global, refusal: Status, out: &mut O) -> Status
-    ensures { (files : Option FileList) (rack_faults : ℕ) → Ends (refused refusal)
+    ensures same { IsBrokenOff refusal → result ≡ refusal }
+    ensures held { IsBrokenOff refusal → O.held out.new ≡ O.held out.old }
+    ensures faults { IsBrokenOff refusal → O.faults out.new ≡ O.faults out.old }
+    ensures ends { (files : Option FileList) (rack_faults : ℕ) → Ends (refused refusal)
         (outside files rack_faults (O.held out.old) (O.faults out.old))
         (outside files rack_faults (O.held out.new) (O.faults out.new)) result }
 {
+    if let Status::WriteFault | Status::NoMemory = refusal {
+        return refusal;
+    }
     match write_refusal(alloc, &refusal, out) {
         Ok(()) => refusal,
         Err(fault) => broken_off(fault),

@@ -4,9 +4,9 @@ use Rattle.hd_app.proofs.RunLemmas.{usage_runs, refused_not_done}
 use Rattle.hd_app.proofs.top.run.Goals as goal
 
 pub returns-in-None-clause-runs : goal.returns-in-None-clause-runs
-returns-in-None-clause-runs g c = rw (← c.in-None.ensures) (usage_runs _ _ _ _ (c.refuse.ensures _ _))
+returns-in-None-clause-runs g c = rw (← c.in-None.ensures) (usage_runs _ _ _ _ (c.refuse.ensures.ends _ _))
 
-pub returns-in-None-clause-closed : goal.returns-in-None-clause-closed
-returns-in-None-clause-closed g c = λ done. absurd (
+pub returns-in-None-clause-open : goal.returns-in-None-clause-open
+returns-in-None-clause-open g c = λ done. absurd (
     refused_not_done Usage _ _ _ (λ (no : Usage ≡ Done). cc)
-    (c.refuse.ensures (g.R.Rack.held c.args.rack.now) (g.R.Rack.faults c.args.rack.now)) done)
+    (c.refuse.ensures.ends (g.R.Rack.held c.args.rack.now) (g.R.Rack.faults c.args.rack.now)) done)

@@ -1,4 +1,4 @@
-use Rattle.hd_app.proofs.TopLemmas.{complete, read_fault, read_fault_line, write_fault}
+use Rattle.hd_app.proofs.TopLemmas.{complete, cut, read_fault, read_fault_line, write_fault}
 use Rattle.hd_app.proofs.top.top_plain.Goals as goal
 
 pub returns-clause-complete : goal.returns-clause-complete
@@ -12,3 +12,6 @@ returns-clause-read_fault_line g c = read_fault_line _ _ _ _ _ _ c.run.ensures.r
 
 pub returns-clause-write_fault : goal.returns-clause-write_fault
 returns-clause-write_fault g c = write_fault _ _ _ _ _ _ c.run.ensures.runs
+
+pub returns-clause-cut : goal.returns-clause-cut
+returns-clause-cut g c = λ _. cut _ _ _ _ _ _ c.run.ensures.runs

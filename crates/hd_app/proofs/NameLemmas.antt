@@ -1,0 +1,48 @@
+-- Names that differ.
+use Rattle.std.proofs.Common.{◌≡◌, ◌≢◌, ℕ, ◌<◌, ◌∙◌, Bool, true, false, ◌&&◌, nat_lt, List, [], ◌∷◌, length, get_or, String, Global, Vec, string_bytes, refl, sym, ap, subst, arith}
+use Rattle.std.specs.Prelude.{All, AllPairs, map}
+use Rattle.std.proofs.lemmas.Bool.Decides.{nat_tests}
+use Rattle.std.proofs.lemmas.List.{length-map, get_or-map}
+use Rattle.std.proofs.lemmas.List.Elements.{All-nil, All-cons}
+use Rattle.std.proofs.lemmas.List.Kept.{AllPairs-cons}
+
+-- each number is below the next
+abbrev pub rises : List ℕ → Bool
+rises [] = true
+rises (x ∷ []) = true
+rises (x ∷ y ∷ ys) = nat_lt x y && rises (y ∷ ys)
+
+both : (a b : Bool) → (a && b) ≡ true → (a ≡ true) × (b ≡ true)
+both true true is = (refl, refl)
+both true false is = cc
+both false b is = cc
+
+above : (x y : ℕ) (ys : List ℕ) → x < y → All (λ z. y < z) ys → All (λ z. x < z) ys
+above x y ys lt all = λ k d within. let next = all k d within in omega (arith, lt, next)
+
+above_first : (x : ℕ) (xs : List ℕ) → rises (x ∷ xs) ≡ true → All (λ z. x < z) xs
+above_first x [] is = All-nil (λ z. x < z)
+above_first x (y ∷ ys) is =
+    let kept = both (nat_lt x y) (rises (y ∷ ys)) is in
+    let test = kept.0 in
+    let lt : x < y = grind (arith, nat_tests, test) in
+    All-cons (λ z. x < z) y ys lt (above x y ys lt (above_first y ys kept.1))
+
+behind_first : (x : ℕ) (xs : List ℕ) → rises (x ∷ xs) ≡ true → rises xs ≡ true
+behind_first x [] is = refl
+behind_first x (y ∷ ys) is = (both (nat_lt x y) (rises (y ∷ ys)) is).1
+
+all_rise : (xs : List ℕ) → rises xs ≡ true → AllPairs (λ x y. x < y) xs
+all_rise [] is = λ i j d lt within. absurd (omega (arith, within))
+all_rise (x ∷ xs) is = AllPairs-cons (λ x y. x < y) x xs (above_first x xs is) (all_rise xs (behind_first x xs is))
+
+-- items whose names begin with bytes that rise differ by their names
+pub differ_by_first : {A : Type 0} (name : A → List ℕ) (items : List A) (firsts : List ℕ) → map (λ (x : A). get_or (name x) 0 0) items ≡ firsts → rises firsts ≡ true
+    → AllPairs (λ (x y : A). name x ≢ name y) items
+differ_by_first {A} name items firsts are is i j d lt within same =
+    let rise = subst (λ (xs : List ℕ). AllPairs (λ x y. x < y) xs) (sym are) (all_rise firsts is) in
+    let below = rise i j 0 lt (omega (arith, within, length-map items (λ (x : A). get_or (name x) 0 0))) in
+    let one = get_or-map (λ (x : A). get_or (name x) 0 0) items i d 0 (omega (arith, lt, within)) in
+    let other = get_or-map (λ (x : A). get_or (name x) 0 0) items j d 0 within in
+    let equal = ap (λ (n : List ℕ). get_or n 0 0) same in
+    omega (arith, below, one, other, equal)

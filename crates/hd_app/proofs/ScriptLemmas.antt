@@ -1,0 +1,187 @@
+-- How a script can end.
+use Rattle.std.proofs.Common.{◌≡◌, ℕ, zero, suc, ◌+◌, ◌-◌, ◌<◌, ◌≤◌, ◌∙◌, Bool, true, false, cond, List, [], ◌∷◌, ◌++◌, length, take, drop, Option, Some, None, Ok, Err, refl, sym, ap, subst, arith, length-take}
+use Rattle.std.specs.Prelude.{Result, Contains, IfSome, IsSome, codes, nat_lt, slice_index_or}
+use Rattle.std.specs.Str.{bytes_eq}
+use Rattle.std.proofs.lemmas.Bool.Decides.{nat_tests}
+use Rattle.std.proofs.lemmas.List.Elements.{Contains-push}
+use Rattle.hd_usda.specs.declared.spec.LayerSpec.{LayerSpec}
+use Rattle.hd_usda.specs.Limits.{limit_of}
+use Rattle.hd_io.specs.Acts.{Act, Outside}
+use Rattle.hd_script.specs.declared.command.Command.{Command}
+use Rattle.hd_script.specs.declared.command.Command.TheVariants as command
+use Rattle.hd_script.specs.declared.fault.LineFault.{LineFault}
+use Rattle.hd_script.specs.declared.fault.LineFault.TheVariants as fault
+use Rattle.hd_script.specs.Commands.{reads_line}
+use Rattle.hd_retained.specs.declared.fault.EditFault.{EditFault}
+use Rattle.hd_retained.specs.declared.fault.EditFault.TheVariants as edit
+use Rattle.hd_retained.specs.Layers as retained
+use Rattle.hd_stack.specs.Stacks.{edited_at}
+use Rattle.hd_session.specs.declared.refusal.Refusal.{Refusal}
+use Rattle.hd_session.specs.declared.refusal.Refusal.TheVariants as refusal
+use Rattle.hd_session.specs.States.{State, opened}
+use Rattle.hd_session.specs.Steps as session
+use Rattle.hd_app.specs.declared.status.Status.{Status}
+use Rattle.hd_app.specs.declared.status.Status.TheVariants.{Done, Usage, Layer, Script, Limit, ReadFault, WriteFault, NoMemory}
+use Rattle.hd_app.specs.declared.status.Place.TheVariants.{Words, File, Line}
+use Rattle.hd_app.specs.Commands.{Program, draw, step, draw_of, step_of, file_names}
+use Rattle.hd_app.specs.Commands as program
+use Rattle.hd_app.specs.Endings.{Ends, IsReadFault}
+use Rattle.hd_app.specs.Outcomes.{stepped}
+use Rattle.hd_app.specs.Refusing.{Outcome, refused}
+use Rattle.hd_app.specs.Runs.{ShelfState, IsAnswerTo, Runs}
+use Rattle.hd_app.specs.Scripts.{LineStep, line_refusal, command_refusal, line_step, step_of_line, preceded, continued, ended, lines_of, outcome_of_lines}
+use Rattle.hd_app.proofs.RunLemmas.{ran_runs}
+
+-- the endings of a script: it was done, or one of its lines is refused
+abbrev pub EndsScript : List ℕ → Status → Type 0
+EndsScript name Done = Unit {0}
+EndsScript name (Script line cause) = Unit {0}
+EndsScript name (Limit (Line file line) which count) = (file ≡ name) × (count ≡ limit_of which)
+EndsScript name (Limit Words which count) = ⊥
+EndsScript name (Limit (File file) which count) = ⊥
+EndsScript name NoMemory = Unit {0}
+EndsScript name Usage = ⊥
+EndsScript name (Layer file line cause) = ⊥
+EndsScript name (ReadFault file) = ⊥
+EndsScript name WriteFault = ⊥
+
+line_refusal_ends : (name : List ℕ) (number : ℕ) (why : LineFault) → EndsScript name (line_refusal name number why)
+line_refusal_ends name number fault.Syntax = tt
+line_refusal_ends name number fault.LeftOut = tt
+line_refusal_ends name number fault.Fraction = tt
+line_refusal_ends name number (fault.Limit which) = (refl, refl)
+line_refusal_ends name number fault.NoMemory = tt
+
+-- a command that is refused, and by no write
+abbrev pub IsOwn : session.Step → Type 0
+IsOwn (Ok done) = Unit {0}
+IsOwn (Err refusal.WriteFault) = ⊥
+IsOwn (Err (refusal.Script cause)) = Unit {0}
+IsOwn (Err (refusal.Limit which)) = Unit {0}
+IsOwn (Err refusal.NoMemory) = Unit {0}
+
+edit_own : (s : State) (done : Result (List retained.Layer) EditFault) → IsOwn (session.change_layers s done)
+edit_own s (Ok layers) = tt
+edit_own s (Err edit.NoPrim) = tt
+edit_own s (Err edit.PrimThere) = tt
+edit_own s (Err edit.UnderItself) = tt
+edit_own s (Err (edit.Limit which)) = tt
+edit_own s (Err edit.NoMemory) = tt
+
+either_own : (b : Bool) (x y : session.Step) → IsOwn x → IsOwn y → IsOwn (cond b x y)
+either_own true x y own other = own
+either_own false x y own other = other
+
+step_own : (s : State) (c : Command) → IsOwn (session.step s c)
+step_own s (command.Layer number) = either_own (nat_lt number (length s.layers)) _ _ tt tt
+step_own s (command.Edit edit) = edit_own s (edited_at s.layers s.current edit)
+step_own s command.Commit = tt
+step_own s (command.Dump name) = tt
+step_own s command.Report = tt
+step_own s (command.Start name width height camera) = tt
+step_own s (command.Tiles count) = tt
+step_own s command.Pause = tt
+step_own s command.Resume = tt
+step_own s command.Stop = tt
+step_own s command.Wait = tt
+
+-- how a line ends a script, if it ends it
+abbrev pub EndsIfRefused : List ℕ → LineStep → Type 0
+EndsIfRefused name (Ok done) = Unit {0}
+EndsIfRefused name (Err status) = EndsScript name status
+
+command_ends : (name : List ℕ) (number : ℕ) (st : session.Step) → IsOwn st → EndsIfRefused name (step_of_line name number st)
+command_ends name number (Ok done) own = tt
+command_ends name number (Err (refusal.Script cause)) own = tt
+command_ends name number (Err (refusal.Limit which)) own = (refl, refl)
+command_ends name number (Err refusal.WriteFault) own = own
+command_ends name number (Err refusal.NoMemory) own = tt
+
+line_ends : (name : List ℕ) (number : ℕ) (s : State) (read : Result (Option Command) LineFault) → EndsIfRefused name (line_step name number s read)
+line_ends name number s (Ok None) = tt
+line_ends name number s (Ok (Some c)) = command_ends name number (session.step s c) (step_own s c)
+line_ends name number s (Err why) = line_refusal_ends name number why
+
+continued_ends : (name : List ℕ) (further : State → Outcome) (st : LineStep) → EndsIfRefused name st → ((after : State) → EndsScript name (further after).ending)
+    → EndsScript name (continued further st).ending
+continued_ends name further (Ok done) own rest = rest done.0
+continued_ends name further (Err status) own rest = own
+
+-- each script ends so
+pub script_ends : (name : List ℕ) (number : ℕ) (s : State) (lines : List (List ℕ)) → EndsScript name (outcome_of_lines name number s lines).ending
+script_ends name number s [] = tt
+script_ends name number s (line ∷ lines) =
+    continued_ends name (λ after. outcome_of_lines name (number + 1) after lines) (line_step name number s (reads_line line))
+    (line_ends name number s (reads_line line)) (λ after. script_ends name (number + 1) after lines)
+
+-- what such an ending says of itself
+pub script_answers : (layers : List (List ℕ)) (name : List ℕ) (shelf : ShelfState) (status : Status) → EndsScript name status → IsAnswerTo (Some (step layers name)) shelf status
+script_answers layers name shelf Done ends = refl
+script_answers layers name shelf (Script line cause) ends = tt
+script_answers layers name shelf (Limit (Line file line) which count) ends =
+    (subst (λ (f : List ℕ). Contains (layers ++ name ∷ []) f) (sym ends.0) (Contains-push layers name), ends.1)
+script_answers layers name shelf (Limit Words which count) ends = absurd ends
+script_answers layers name shelf (Limit (File file) which count) ends = absurd ends
+script_answers layers name shelf NoMemory ends = tt
+script_answers layers name shelf Usage ends = absurd ends
+script_answers layers name shelf (Layer file line cause) ends = absurd ends
+script_answers layers name shelf (ReadFault file) ends = absurd ends
+script_answers layers name shelf WriteFault ends = absurd ends
+
+pub script_reads : (name : List ℕ) (status : Status) → EndsScript name status → IsReadFault status → ⊥
+script_reads name (ReadFault file) ends is = ends
+script_reads name Done ends is = is
+script_reads name Usage ends is = is
+script_reads name (Layer file line cause) ends is = is
+script_reads name (Script line cause) ends is = is
+script_reads name (Limit place which count) ends is = is
+script_reads name WriteFault ends is = is
+script_reads name NoMemory ends is = is
+
+pub script_writes : (name : List ℕ) (status : Status) → EndsScript name status → status ≡ WriteFault → ⊥
+script_writes name status ends is = subst (EndsScript name) is ends
+
+draw_is_draw : (words : List (List ℕ)) (layers : List (List ℕ)) (script : List ℕ) → draw_of words ≡ Some (step layers script) → 1 ≤ length layers
+draw_is_draw [] layers script is = cc
+draw_is_draw (layer ∷ []) layers script is = cc
+draw_is_draw (layer ∷ out ∷ []) layers script is = let no : Some (draw layer out) ≡ Some (step layers script) = is in cc
+draw_is_draw (layer ∷ out ∷ more ∷ words) layers script is = cc
+
+step_if : (b : Bool) (some : List (List ℕ)) (name : List ℕ) (layers : List (List ℕ)) (script : List ℕ)
+    → cond b None (Some (step some name)) ≡ Some (step layers script) → (b ≡ false) × (some ≡ layers)
+step_if true some name layers script is = let no : None ≡ Some (step layers script) = is in cc
+step_if false some name layers script is = (refl, cc)
+
+step_names_layers : (words : List (List ℕ)) (layers : List (List ℕ)) (script : List ℕ) → step_of words ≡ Some (step layers script) → 1 ≤ length layers
+step_names_layers words layers script is =
+    let kept = step_if (nat_lt (length words) 2) (take (length words - 1) words) (slice_index_or words (length words - 1) []) layers script is in
+    let test = kept.0 in
+    let many : 2 ≤ length words = grind (arith, nat_tests, test) in
+    let size : length (take (length words - 1) words) ≡ length words - 1 = simp length-take (omega arith) in
+    subst (λ (names : List (List ℕ)). 1 ≤ length names) kept.1 (omega (arith, many, size))
+
+either_names_layers : (b : Bool) (x y : Option Program) (layers : List (List ℕ)) (script : List ℕ)
+    → (x ≡ Some (step layers script) → 1 ≤ length layers) → (y ≡ Some (step layers script) → 1 ≤ length layers)
+    → cond b x y ≡ Some (step layers script) → 1 ≤ length layers
+either_names_layers true x y layers script first other is = first is
+either_names_layers false x y layers script first other is = other is
+
+-- a script is run over one layer at least
+pub some_layers : (words : List (List ℕ)) (layers : List (List ℕ)) (script : List ℕ) → program.command words ≡ Some (step layers script) → 1 ≤ length layers
+some_layers [] layers script is = cc
+some_layers (word ∷ words) layers script is =
+    either_names_layers (bytes_eq word (codes "draw")) (draw_of words) (cond (bytes_eq word (codes "step")) (step_of words) None) layers script
+    (draw_is_draw words layers script)
+    (either_names_layers (bytes_eq word (codes "step")) (step_of words) None layers script (step_names_layers words layers script) (λ (no : None ≡ Some (step layers script)). cc))
+    is
+
+-- a script that was run over layers that were read
+pub stepped_runs : (layers : List (List ℕ)) (script : List ℕ) (read : List LayerSpec) (bytes : List ℕ) (shelf_before shelf_now : ShelfState) (before now : Outside) (status : Status)
+    → IfSome shelf_before.files (λ files. stepped files layers script ≡ outcome_of_lines script 1 (opened read) (lines_of bytes)) → shelf_now.faults ≡ shelf_before.faults
+    → Ends (outcome_of_lines script 1 (opened read) (lines_of bytes)) before now status → Runs (Some (step layers script)) shelf_before shelf_now before now status
+stepped_runs layers script read bytes shelf_before shelf_now before now status told kept ends =
+    let own = script_ends script 1 (opened read) (lines_of bytes) in
+    ran_runs (step layers script) (outcome_of_lines script 1 (opened read) (lines_of bytes)) shelf_before shelf_now before now status told kept
+    (script_answers layers script shelf_now (outcome_of_lines script 1 (opened read) (lines_of bytes)).ending own)
+    (script_reads script (outcome_of_lines script 1 (opened read) (lines_of bytes)).ending own)
+    (script_writes script (outcome_of_lines script 1 (opened read) (lines_of bytes)).ending own) ends

@@ -1,0 +1,6 @@
+use Rattle.hd_app.proofs.LineLemmas.{unread_line}
+use Rattle.hd_app.proofs.script.run_line.Goals as goal
+
+pub returns-in-Err-clause-refusal : goal.returns-in-Err-clause-refusal
+returns-in-Err-clause-refusal g c =
+    unread_line c.args.name.now c.args.number c.args.session.now.state _ c.in-Err.fault _ _ c.in-Err.ensures.fault c.line_refusal.ensures

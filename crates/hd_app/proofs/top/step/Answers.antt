@@ -1,0 +1,14 @@
+use Rattle.std.proofs.Common.{map, string_bytes}
+use Rattle.hd_app.specs.Commands.{step}
+use Rattle.hd_app.proofs.RunLemmas.{refused_runs}
+use Rattle.hd_app.proofs.ScriptLemmas.{stepped_runs}
+use Rattle.hd_app.proofs.top.step.Goals as goal
+
+pub returns-in-Ok-clause-runs : goal.returns-in-Ok-clause-runs
+returns-in-Ok-clause-runs g c =
+    stepped_runs (map string_bytes c.args.layers.now) c.args.script.now c.in-Ok.layers.items c.deref.result.now _ _ _ _ _
+    (rw c.deref.ensures.value c.in-Ok.ensures.told) c.in-Ok.ensures.kept c.run_over.ensures.ends
+
+pub returns-in-Err-clause-runs : goal.returns-in-Err-clause-runs
+returns-in-Err-clause-runs g c =
+    refused_runs (step (map string_bytes c.args.layers.now) c.args.script.now) c.in-Err.refusal _ _ _ _ _ c.in-Err.ensures.refusal (c.refuse.ensures.ends _ _)

@@ -1,0 +1,211 @@
+//! A script, line by line.
+
+ghost use Rattle.std.specs.Prelude.{◌≡◌, ◌<◌, ◌≤◌, ◌⊎◌, ◌∷◌, false, length, All, OnOk, IfErr, IfSome, IsTrue, nat_eq, option_copied, vec_len};
+ghost use Rattle.std.specs.List.{position};
+ghost use Rattle.hd_io.specs.Acts.{outside};
+ghost use Rattle.hd_script.specs.Commands.{reads_line};
+ghost use Rattle.hd_script.specs.WellFormed.{is_command};
+ghost use Rattle.hd_session.specs.Steps.{step, finish};
+ghost use Rattle.hd_session.specs.States.{opened};
+ghost use Rattle.hd_usda.specs.Limits.{limit_of};
+ghost use Rattle.hd_usda.specs.WellFormed.{is_layer};
+ghost use Rattle.hd_app.specs.declared.status.Place.TheVariants.{Line};
+ghost use Rattle.hd_app.specs.Endings.{Ends};
+ghost use Rattle.hd_app.specs.Lines.{DoesLine, RefusesLine, lines_left};
+ghost use Rattle.hd_app.specs.Outside.{byte_limit};
+ghost use Rattle.hd_app.specs.Scripts.{lines_of, line_refusal, command_refusal, line_step, step_of_line, ended, outcome_of_lines};
+
+use crate::layer::name_of;
+use crate::status::{Place, Status};
+use crate::writing::refuse;
+use hd_io::{Rack, Sink};
+use hd_script::{Command, LineFault};
+use hd_session::{Refusal, ScriptWhy, Session};
+use hd_usda::{LayerSpec, Which};
+use std::alloc::Global;
+
+/// The refusal of a line that passes a limit.
+fn passed(alloc: Global, name: &str, number: u32, which: Which) -> Status
+    ensures { (result ≡ Status.Limit (Line name.now number) which (limit_of which)) ⊎ (result ≡ Status.NoMemory) }
+{
+    match name_of(alloc, name) {
+        Ok(file) => Status::Limit {
+            place: Place::Line(file, number),
+            which,
+            count: which.number(),
+        },
+        Err(_) => Status::NoMemory,
+    }
+}
+
+/// The refusal of a line that is no command.
+fn line_refusal(alloc: Global, name: &str, number: u32, fault: LineFault) -> Status
+    ensures { (result ≡ line_refusal name.now number fault) ⊎ (result ≡ Status.NoMemory) }
+{
+    let why = match fault {
+        LineFault::Syntax => ScriptWhy::Syntax,
+        LineFault::LeftOut => ScriptWhy::LeftOut,
+        LineFault::Fraction => ScriptWhy::Fraction,
+        LineFault::Limit(which) => return passed(alloc, name, number, which),
+        LineFault::NoMemory => return Status::NoMemory,
+    };
+    Status::Script { line: number, why }
+}
+
+/// The refusal of a command.
+fn command_refusal(alloc: Global, name: &str, number: u32, refusal: Refusal) -> Status
+    ensures given { (result ≡ command_refusal name.now number refusal) ⊎ (result ≡ Status.NoMemory) }
+    ensures write_fault { refusal ≡ Refusal.WriteFault → result ≡ Status.WriteFault }
+{
+    match refusal {
+        Refusal::Script(why) => Status::Script { line: number, why },
+        Refusal::Limit(which) => passed(alloc, name, number, which),
+        Refusal::WriteFault => Status::WriteFault,
+        Refusal::NoMemory => Status::NoMemory,
+    }
+}
+
+/// Does the command of the line of this number.
+fn run_command<K: Rack, O: Sink>(
+    alloc: Global,
+    session: &mut Session,
+    name: &str,
+    number: u32,
+    command: &Command,
+    rack: &mut K,
+    out: &mut O,
+) -> Result<(), Status>
+    requires unspent { session.old.is_spent ≡ false }
+    requires formed { IsTrue (is_command command.now) }
+    ensures done { OnOk result (DoesLine (step_of_line name.now number (step session.old.state command.now)) session.new.state
+        (outside (K.held rack.old) (K.faults rack.old) (O.held out.old) (O.faults out.old))
+        (outside (K.held rack.new) (K.faults rack.new) (O.held out.new) (O.faults out.new))) }
+    ensures unspent { OnOk result (session.new.is_spent ≡ false) }
+    ensures refusal { IfErr result (RefusesLine (step_of_line name.now number (step session.old.state command.now))
+        (outside (K.held rack.old) (K.faults rack.old) (O.held out.old) (O.faults out.old))
+        (outside (K.held rack.new) (K.faults rack.new) (O.held out.new) (O.faults out.new))) }
+    ensures open { K.is_open rack.new ≡ K.is_open rack.old }
+{
+    match session.command(alloc, command, rack, out) {
+        Ok(()) => Ok(()),
+        Err(refusal) => Err(command_refusal(alloc, name, number, refusal)),
+    }
+}
+
+/// Does the line of this number.
+fn run_line<K: Rack, O: Sink>(
+    alloc: Global,
+    session: &mut Session,
+    name: &str,
+    number: u32,
+    line: &[u8],
+    rack: &mut K,
+    out: &mut O,
+) -> Result<(), Status>
+    requires unspent { session.old.is_spent ≡ false }
+    ensures done { OnOk result (DoesLine (line_step name.now number session.old.state (reads_line line.now)) session.new.state
+        (outside (K.held rack.old) (K.faults rack.old) (O.held out.old) (O.faults out.old))
+        (outside (K.held rack.new) (K.faults rack.new) (O.held out.new) (O.faults out.new))) }
+    ensures unspent { OnOk result (session.new.is_spent ≡ false) }
+    ensures refusal { IfErr result (RefusesLine (line_step name.now number session.old.state (reads_line line.now))
+        (outside (K.held rack.old) (K.faults rack.old) (O.held out.old) (O.faults out.old))
+        (outside (K.held rack.new) (K.faults rack.new) (O.held out.new) (O.faults out.new))) }
+    ensures open { K.is_open rack.new ≡ K.is_open rack.old }
+{
+    match hd_script::read_line(alloc, line) {
+        Ok(None) => Ok(()),
+        Ok(Some(command)) => run_command(alloc, session, name, number, &command, rack, out),
+        Err(fault) => Err(line_refusal(alloc, name, number, fault)),
+    }
+}
+
+/// The place of the first line feed of a text.
+fn first_feed(text: &[u8]) -> Option<usize>
+    ensures { result ≡ position (λ byte. nat_eq byte 10) text.now }
+{
+    text.iter().position(|byte| *byte == b'\n')
+}
+
+/// The first line of a text, and the text behind its line feed, if it has one.
+fn split_line(text: &[u8]) -> (&[u8], Option<&[u8]>)
+    ensures lines { lines_of text.now ≡ result.0.now ∷ lines_left (option_copied result.1) }
+    ensures shorter { IfSome (option_copied result.1) (λ behind. length behind < length text.now) }
+{
+    match first_feed(text) {
+        Some(end) => (&text[..end], Some(&text[end + 1..])),
+        None => (text, None),
+    }
+}
+
+/// Ends a script that was read to its end. No line is left to be refused: that the end is not done has its cause in a
+/// write or in want of memory.
+fn end_script<K: Rack, O: Sink>(
+    alloc: Global,
+    session: &mut Session,
+    rack: &mut K,
+    out: &mut O,
+) -> Status
+    requires unspent { session.old.is_spent ≡ false }
+    ensures ends { Ends (ended (finish session.old.state))
+        (outside (K.held rack.old) (K.faults rack.old) (O.held out.old) (O.faults out.old))
+        (outside (K.held rack.new) (K.faults rack.new) (O.held out.new) (O.faults out.new)) result }
+    ensures open { K.is_open rack.new ≡ K.is_open rack.old }
+{
+    match session.finish(rack, out) {
+        Ok(()) => Status::Done,
+        Err(refusal) => command_refusal(alloc, "", 0, refusal),
+    }
+}
+
+/// Does the lines of the script of this name, one after the other, and answers how that ended.
+fn run_script<K: Rack, O: Sink>(
+    alloc: Global,
+    session: &mut Session,
+    name: &str,
+    bytes: &[u8],
+    rack: &mut K,
+    out: &mut O,
+) -> Status
+    requires unspent { session.old.is_spent ≡ false }
+    requires short { length bytes.now ≤ byte_limit }
+    ensures ends { Ends (outcome_of_lines name.now 1 session.old.state (lines_of bytes.now))
+        (outside (K.held rack.old) (K.faults rack.old) (O.held out.old) (O.faults out.old))
+        (outside (K.held rack.new) (K.faults rack.new) (O.held out.new) (O.faults out.new)) result }
+    ensures open { K.is_open rack.new ≡ K.is_open rack.old }
+{
+    let mut number = 1;
+    let mut left = Some(bytes);
+    'lines: while let Some(text) = left {
+        let (line, behind) = split_line(text);
+        if let Err(refusal) = run_line(alloc, session, name, number, line, rack, out) {
+            return refuse(alloc, refusal, out);
+        }
+        number += 1;
+        left = behind;
+    }
+    end_script(alloc, session, rack, out)
+}
+
+/// Runs the script of this name over layers, from one to eight, of which the first is the strongest.
+pub fn run_over<K: Rack, O: Sink>(
+    alloc: Global,
+    layers: Vec<LayerSpec>,
+    name: &str,
+    bytes: &[u8],
+    rack: &mut K,
+    out: &mut O,
+) -> Status
+    requires some { 1 ≤ vec_len layers }
+    requires few { vec_len layers ≤ 8 }
+    requires formed { All (λ layer. IsTrue (is_layer layer)) layers.items }
+    requires short { length bytes.now ≤ byte_limit }
+    ensures ends { Ends (outcome_of_lines name.now 1 (opened layers.items) (lines_of bytes.now))
+        (outside (K.held rack.old) (K.faults rack.old) (O.held out.old) (O.faults out.old))
+        (outside (K.held rack.new) (K.faults rack.new) (O.held out.new) (O.faults out.new)) result }
+    ensures open { K.is_open rack.new ≡ K.is_open rack.old }
+{
+    match Session::open(alloc, layers) {
+        Ok(mut session) => run_script(alloc, &mut session, name, bytes, rack, out),
+        Err(_) => Status::NoMemory,
+    }
+}
