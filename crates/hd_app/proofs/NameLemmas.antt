@@ -46,3 +46,19 @@ differ_by_first {A} name items firsts are is i j d lt within same =
     let other = get_or-map (λ (x : A). get_or (name x) 0 0) items j d 0 within in
     let equal = ap (λ (n : List ℕ). get_or n 0 0) same in
     omega (arith, below, one, other, equal)
+
+-- ten files and the first bytes of their names
+pub first_bytes : (a b c d e f g h i s : String Global) (ta tb tc td te tf tg th ti ts : Vec ℕ Global)
+    → string_bytes a ≡ 97 ∷ []
+    → string_bytes b ≡ 98 ∷ []
+    → string_bytes c ≡ 99 ∷ []
+    → string_bytes d ≡ 100 ∷ []
+    → string_bytes e ≡ 101 ∷ []
+    → string_bytes f ≡ 102 ∷ []
+    → string_bytes g ≡ 103 ∷ []
+    → string_bytes h ≡ 104 ∷ []
+    → string_bytes i ≡ 105 ∷ []
+    → string_bytes s ≡ 115 ∷ []
+    → map (λ (file : String Global × Vec ℕ Global). get_or (string_bytes file.0) 0 0) ((a, ta) ∷ (b, tb) ∷ (c, tc) ∷ (d, td) ∷ (e, te) ∷ (f, tf) ∷ (g, tg) ∷ (h, th) ∷ (i, ti) ∷ (s, ts) ∷ [])
+    ≡ 97 ∷ 98 ∷ 99 ∷ 100 ∷ 101 ∷ 102 ∷ 103 ∷ 104 ∷ 105 ∷ 115 ∷ []
+first_bytes a b c d e f g h i s ta tb tc td te tf tg th ti ts ea eb ec ed ee ef eg eh ei es = rw (ea, eb, ec, ed, ee, ef, eg, eh, ei, es) refl
