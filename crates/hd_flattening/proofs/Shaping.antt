@@ -9,7 +9,8 @@ use Rattle.hd_value.specs.Maps.{Map, set_at}
 use Rattle.hd_value.specs.Shapes.{HasShape}
 use Rattle.hd_value.proofs.Getting.{eqk, eqk_same}
 use Rattle.hd_value.proofs.Setting.{get-set_at}
-use Rattle.hd_scene.specs.Scenes.{Scene, path_cmp, IsShapedBy}
+use Rattle.hd_path.specs.Paths.{path_cmp}
+use Rattle.hd_scene.specs.Scenes.{Scene, IsShapedBy}
 use Rattle.hd_scene.specs.declared.prims.Entry.{Entry}
 use Rattle.hd_scene.proofs.Children.{path_cmp_total}
 use Rattle.hd_flattening.proofs.Placing.{some_is_not}

@@ -4,7 +4,8 @@ use Rattle.std.specs.Option.{option_map}
 use Rattle.std.specs.Ordering.{eq_by_cmp}
 use Rattle.std.specs.FinMap.{get, find, entries, get-from_entries, get-entries}
 use Rattle.std.proofs.lemmas.Map.Views.{tells_apart}
-use Rattle.hd_scene.specs.Scenes.{Scene, path_cmp, IsClosed}
+use Rattle.hd_path.specs.Paths.{path_cmp}
+use Rattle.hd_scene.specs.Scenes.{Scene, IsClosed}
 use Rattle.hd_scene.specs.declared.prims.Entry.{Entry}
 use Rattle.hd_scene.proofs.Children.{path_cmp_total, path_cmp_exact}
 use Rattle.hd_flattening.specs.Flattened.{flat_entry, flattened}

@@ -14,7 +14,8 @@ use Rattle.hd_value.specs.LocatorSets.{touches}
 use Rattle.hd_value.specs.Maps.{Map, overlaid_at}
 use Rattle.hd_value.specs.Shapes.{HasShape}
 use Rattle.hd_value.proofs.Prefixes.{same_itself}
-use Rattle.hd_scene.specs.Scenes.{Scene, path_cmp, IsShapedBy}
+use Rattle.hd_path.specs.Paths.{path_cmp}
+use Rattle.hd_scene.specs.Scenes.{Scene, IsShapedBy}
 use Rattle.hd_scene.specs.declared.prims.Entry.{Entry}
 use Rattle.hd_merging.specs.Merges.{overlaid, first_kind, merged_prim, merged_entry, prims_at, merged}
 use Rattle.hd_merging.specs.MergedScenes.{or_left, or_right, is_equal, get-overlaid, get-merged}

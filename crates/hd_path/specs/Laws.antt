@@ -2,7 +2,7 @@
 use Rattle.std.specs.Prelude.{◌≡◌, ℕ, List, Ok}
 use Rattle.std.specs.Cmp.Lexicographic.{slice_cmp}
 use Rattle.std.specs.Ordering.{nat_cmp}
-use Rattle.hd_path.specs.Paths.{IsPath, path_text}
+use Rattle.hd_path.specs.Paths.{IsPath, path_text, path_cmp}
 use Rattle.hd_path.specs.Parsing.{parsed}
 
 -- a path is what its text spells
@@ -15,4 +15,4 @@ SpelledPathHasText = (text : List ℕ) (path : List (List ℕ)) → parsed text 
 
 -- the order name by name is that of the texts
 abbrev pub OrderIsThatOfTexts : Type 0
-OrderIsThatOfTexts = (p q : List (List ℕ)) → IsPath p → IsPath q → slice_cmp (slice_cmp nat_cmp) p q ≡ slice_cmp nat_cmp (path_text p) (path_text q)
+OrderIsThatOfTexts = (p q : List (List ℕ)) → IsPath p → IsPath q → path_cmp p q ≡ slice_cmp nat_cmp (path_text p) (path_text q)

@@ -1,6 +1,9 @@
 -- A path is the list of its names, from the root down.
 use Rattle.std.specs.Prelude.{◌≡◌, ℕ, ◌≤◌, List, [], ◌∷◌, length, take, All, codes}
+use Rattle.std.specs.Cmp.Lexicographic.{slice_cmp}
 use Rattle.std.specs.List.{flat_map}
+use Rattle.std.specs.Ordering.{nat_cmp}
+use Rattle.std.specs.declared.cmp.Ordering.{Ordering}
 use Rattle.hd_path.specs.Names.{IsName}
 
 -- at most 32 names
@@ -20,3 +23,7 @@ path_text (name ∷ names) = slashed (name ∷ names)
 -- the path begins with the names of the prefix
 abbrev pub HasPrefix : List (List ℕ) → List (List ℕ) → Type 0
 HasPrefix path prefix = take (length prefix) path ≡ prefix
+
+-- the order of paths, name by name
+abbrev pub path_cmp : List (List ℕ) → List (List ℕ) → Ordering
+path_cmp = slice_cmp (slice_cmp nat_cmp)

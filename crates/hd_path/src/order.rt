@@ -8,7 +8,7 @@ ghost use Rattle.std.specs.Ordering.{nat_cmp};
 ghost use Rattle.std.proofs.Common.{refl, ap};
 ghost use Rattle.std.proofs.lemmas.Cmp.{lists_total, lists_equiv};
 ghost use Rattle.hd_path.specs.Comparing.{bytes_same, names_same, names_ties, names_po};
-ghost use Rattle.hd_path.specs.Paths.{path_text};
+ghost use Rattle.hd_path.specs.Paths.{path_text, path_cmp};
 
 use crate::path::Path;
 use crate::token::Token;
@@ -88,7 +88,7 @@ impl Eq for Path {
 }
 
 impl PartialOrd for Path {
-    ghost partial_cmp = { λ p q. Some (slice_cmp (slice_cmp nat_cmp) p q) };
+    ghost partial_cmp = { λ p q. Some (path_cmp p q) };
 
     ghost laws = { names_po };
 
@@ -98,7 +98,7 @@ impl PartialOrd for Path {
 }
 
 impl Ord for Path {
-    ghost cmp = { slice_cmp (slice_cmp nat_cmp) };
+    ghost cmp = { path_cmp };
 
     ghost total = { lists_total nat_list_cmp_total };
 

@@ -6,12 +6,12 @@ use Rattle.std.specs.Ordering.{eq_by_cmp}
 use Rattle.std.specs.FinMap.{get, contains_key, insert, retain_keys, get-insert, get-retain_keys, same_map}
 use Rattle.std.specs.BTreeMap as tree
 use Rattle.std.specs.BTreeMap.{BTreeMap}
-use Rattle.hd_path.specs.Paths.{IsPath}
+use Rattle.hd_path.specs.Paths.{IsPath, path_cmp}
 use Rattle.hd_value.specs.Locators.{is_same, is_prefix}
 use Rattle.hd_value.proofs.Prefixes.{same_itself, prefix_of_prefix}
 use Rattle.hd_schema.proofs.Lookups.{and_true}
 use Rattle.hd_scene.specs.declared.prims.Entry.{Entry}
-use Rattle.hd_scene.specs.Scenes.{path_cmp, IsClosed}
+use Rattle.hd_scene.specs.Scenes.{IsClosed}
 use Rattle.hd_scene.proofs.Children.{path_cmp_total, path_cmp_exact, take-front}
 use Rattle.hd_scene.proofs.Closing.{insert_closed}
 use Rattle.hd_retained.specs.declared.held.Place.{Place}

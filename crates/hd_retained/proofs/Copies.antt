@@ -16,7 +16,7 @@ use Rattle.std.specs.BTreeMap as tree
 use Rattle.std.specs.BTreeMap.{BTreeMap}
 use Rattle.hd_value.specs.Locators.{is_prefix}
 use Rattle.hd_schema.proofs.Lookups.{and_true, true_is_not}
-use Rattle.hd_scene.specs.Scenes.{path_cmp}
+use Rattle.hd_path.specs.Paths.{path_cmp}
 use Rattle.hd_scene.proofs.Children.{path_cmp_total}
 use Rattle.hd_scene.proofs.Closing.{tied}
 use Rattle.hd_retained.specs.declared.fault.EditFault.{EditFault}

@@ -15,7 +15,7 @@ use Rattle.std.specs.declared.cmp.Ordering.TheVariants.{Less, Equal, Greater}
 use Rattle.hd_value.specs.Locators.{is_same, is_prefix}
 use Rattle.hd_value.proofs.Prefixes.{same_text, same_itself}
 use Rattle.hd_schema.proofs.Lookups.{and_true, true_is_not}
-use Rattle.hd_scene.specs.Scenes.{path_cmp}
+use Rattle.hd_path.specs.Paths.{path_cmp}
 use Rattle.hd_retained.specs.declared.held.Place.{Place}
 use Rattle.hd_retained.specs.declared.held.Held.{Held}
 use Rattle.hd_retained.specs.Indexed.{place_cmp, is_at_depth}

@@ -21,12 +21,12 @@ use Rattle.std.specs.declared.alloc.Global.{Global}
 use Rattle.std.specs.declared.vec.Vec.{Vec}
 use Rattle.std.specs.BTreeMap as tree
 use Rattle.std.specs.BTreeMap.{BTreeMap}
-use Rattle.hd_path.specs.Paths.{IsPath}
+use Rattle.hd_path.specs.Paths.{IsPath, path_cmp}
 use Rattle.hd_value.specs.Locators.{is_same, is_prefix}
 use Rattle.hd_value.proofs.Prefixes.{same_itself}
 use Rattle.hd_schema.proofs.Lookups.{and_true, true_is_not}
 use Rattle.hd_scene.specs.declared.prims.Entry.{Entry}
-use Rattle.hd_scene.specs.Scenes.{Scene, path_cmp, child_name, children_of}
+use Rattle.hd_scene.specs.Scenes.{Scene, child_name, children_of}
 use Rattle.hd_scene.proofs.Ascending.{entries-from_entries}
 use Rattle.hd_scene.proofs.Children.{path_cmp_total, AreChildren-children_of, children_of-unique}
 use Rattle.hd_retained.specs.declared.held.Place.{Place}

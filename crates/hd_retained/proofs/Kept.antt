@@ -14,7 +14,7 @@ use Rattle.std.specs.Ordering.{eq_by_cmp, is_eq}
 use Rattle.std.specs.FinMap.{get, find, insert, from_entries, entries, get-insert, get-from_entries, get-entries, same_map, contains_key, len, len-empty, len-insert}
 use Rattle.std.specs.BTreeMap as tree
 use Rattle.std.specs.BTreeMap.{BTreeMap}
-use Rattle.hd_scene.specs.Scenes.{path_cmp}
+use Rattle.hd_path.specs.Paths.{path_cmp}
 use Rattle.hd_scene.proofs.Children.{path_cmp_total, path_cmp_exact}
 use Rattle.hd_retained.specs.declared.held.Place.{Place}
 use Rattle.hd_retained.specs.declared.held.Held.{Held}

@@ -6,12 +6,12 @@ use Rattle.std.specs.List.{AllByRecursion, list_any}
 use Rattle.std.specs.Ordering.{eq_by_cmp}
 use Rattle.std.specs.FinMap.{get, contains_key, keys, contains_key-keys}
 use Rattle.hd_path.specs.Names.{IsName}
-use Rattle.hd_path.specs.Paths.{IsPath}
+use Rattle.hd_path.specs.Paths.{IsPath, path_cmp}
 use Rattle.hd_usda.specs.declared.limits.Which.TheVariants.{Depth}
 use Rattle.hd_value.specs.Locators.{is_same, is_prefix}
 use Rattle.hd_value.proofs.Prefixes.{same_text}
 use Rattle.hd_schema.proofs.Lookups.{and_true, true_is_not}
-use Rattle.hd_scene.specs.Scenes.{path_cmp, IsClosed}
+use Rattle.hd_scene.specs.Scenes.{IsClosed}
 use Rattle.hd_scene.proofs.Closing.{tied}
 use Rattle.hd_retained.specs.declared.fault.EditFault.{EditFault}
 use Rattle.hd_retained.specs.declared.fault.EditFault.TheVariants.{NoPrim, PrimThere, UnderItself, Limit}

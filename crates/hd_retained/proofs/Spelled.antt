@@ -14,7 +14,8 @@ use Rattle.hd_usda.specs.declared.spec.PrimSpec.{PrimSpec}
 use Rattle.hd_usda.specs.declared.spec.LayerSpec.{LayerSpec}
 use Rattle.hd_usda.specs.WellFormed.{is_layer, is_prim_spec, is_path, is_kind, is_property, are_distinct, ascend, has_parent}
 use Rattle.hd_schema.proofs.Lookups.{and_true, true_is_not}
-use Rattle.hd_scene.specs.Scenes.{path_cmp, IsClosed}
+use Rattle.hd_path.specs.Paths.{path_cmp}
+use Rattle.hd_scene.specs.Scenes.{IsClosed}
 use Rattle.hd_scene.proofs.Children.{path_cmp_total, path_cmp_exact}
 use Rattle.hd_scene.proofs.Closing.{tied}
 use Rattle.hd_retained.specs.declared.held.Place.{Place}

@@ -9,7 +9,8 @@ use Rattle.std.specs.BTreeMap as tree
 use Rattle.std.specs.BTreeMap.{BTreeMap}
 use Rattle.hd_usda.specs.WellFormed.{is_property, are_distinct}
 use Rattle.hd_value.specs.Locators.{is_prefix}
-use Rattle.hd_scene.specs.Scenes.{path_cmp, IsClosed}
+use Rattle.hd_path.specs.Paths.{path_cmp}
+use Rattle.hd_scene.specs.Scenes.{IsClosed}
 use Rattle.hd_retained.specs.declared.held.Place.{Place}
 use Rattle.hd_retained.specs.declared.held.Held.{Held}
 use Rattle.hd_retained.specs.Layers.{LayerPrim, Layer, properties_of, container_of, scene_of}

@@ -17,7 +17,8 @@ use Rattle.hd_value.specs.Locators.{is_prefix}
 use Rattle.hd_value.specs.Maps.{Map}
 use Rattle.hd_schema.specs.Authored.{with_property}
 use Rattle.hd_scene.specs.declared.prims.Entry.{Entry}
-use Rattle.hd_scene.specs.Scenes.{Scene, path_cmp}
+use Rattle.hd_path.specs.Paths.{path_cmp}
+use Rattle.hd_scene.specs.Scenes.{Scene}
 
 -- the values of a prim's properties, by their names
 abbrev pub Properties : Type 0

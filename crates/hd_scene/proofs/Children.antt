@@ -11,10 +11,10 @@ use Rattle.std.specs.Cmp.{IsTotalOrder, tied_itself}
 use Rattle.std.specs.Cmp.Lexicographic.{slice_cmp, nat_list_cmp_total, texts_ties}
 use Rattle.std.specs.FinMap.{get, keys, contains_key-keys, slice_cmp-IsAntisymmetric, nat_cmp-IsAntisymmetric, IsAntisymmetric}
 use Rattle.hd_path.specs.Comparing.{names_ties}
-use Rattle.hd_path.specs.Paths.{HasPrefix}
+use Rattle.hd_path.specs.Paths.{HasPrefix, path_cmp}
 use Rattle.hd_value.specs.Locators.{is_same}
 use Rattle.hd_value.proofs.Prefixes.{same_text, same_itself}
-use Rattle.hd_scene.specs.Scenes.{Scene, path_cmp, child_name, children_of, AreChildren, IsClosed}
+use Rattle.hd_scene.specs.Scenes.{Scene, child_name, children_of, AreChildren, IsClosed}
 use Rattle.hd_scene.specs.Tells.{is_same_path}
 use Rattle.hd_scene.proofs.Ascending.{keys_ascend, same_ascending}
 

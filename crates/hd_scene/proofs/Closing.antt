@@ -4,8 +4,8 @@ use Rattle.std.specs.Ordering.{eq_by_cmp, is_eq}
 use Rattle.std.specs.declared.cmp.Ordering.{Ordering}
 use Rattle.std.specs.declared.cmp.Ordering.TheVariants.{Less, Equal, Greater}
 use Rattle.std.specs.FinMap.{get, empty, insert, get-empty, get-insert}
-use Rattle.hd_path.specs.Paths.{IsPath}
-use Rattle.hd_scene.specs.Scenes.{Scene, path_cmp, IsClosed}
+use Rattle.hd_path.specs.Paths.{IsPath, path_cmp}
+use Rattle.hd_scene.specs.Scenes.{Scene, IsClosed}
 use Rattle.hd_scene.specs.declared.prims.Entry.{Entry}
 use Rattle.hd_scene.proofs.Children.{path_cmp_total, path_cmp_exact}
 

@@ -6,7 +6,7 @@ use Rattle.std.specs.Cmp.{eq_by_cmp_equiv}
 use Rattle.std.specs.FinMap.{get, find, keys, insert, from_entries, get-insert, get-from_entries, same_map}
 use Rattle.std.specs.BTreeMap as tree
 use Rattle.std.specs.BTreeMap.{BTreeMap}
-use Rattle.hd_scene.specs.Scenes.{path_cmp}
+use Rattle.hd_path.specs.Paths.{path_cmp}
 use Rattle.hd_scene.specs.declared.prims.Entry.{Entry}
 use Rattle.hd_scene.proofs.Ascending.{entries-from_entries}
 use Rattle.hd_scene.proofs.Children.{path_cmp_total, path_cmp_exact}

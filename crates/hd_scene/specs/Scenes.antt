@@ -4,21 +4,16 @@ use Rattle.std.specs.Option.{option_map}
 use Rattle.std.specs.List.{filter_map}
 use Rattle.std.specs.List.Sorted.{IsStrictlySortedBy}
 use Rattle.std.specs.Ordering.{nat_cmp}
-use Rattle.std.specs.declared.cmp.Ordering.{Ordering}
 use Rattle.std.specs.Cmp.Lexicographic.{slice_cmp}
 use Rattle.std.specs.Coded.{Coded, code_by, coded×, coded_ℕ, coded_list}
 use Rattle.std.specs.FinMap.{FinMap, code, get, keys}
-use Rattle.hd_path.specs.Paths.{IsPath}
+use Rattle.hd_path.specs.Paths.{IsPath, path_cmp}
 use Rattle.hd_value.specs.declared.value.Value.{Value}
 use Rattle.hd_value.specs.Locators.{is_same}
 use Rattle.hd_value.specs.Maps.{Map, map_code}
 use Rattle.hd_value.specs.Shapes.{HasShape}
 use Rattle.hd_scene.specs.declared.prims.Entry.{Entry}
 use Rattle.hd_scene.specs.declared.prims.Primitive.{Primitive}
-
--- the order of paths, name by name
-abbrev pub path_cmp : List (List ℕ) → List (List ℕ) → Ordering
-path_cmp = slice_cmp (slice_cmp nat_cmp)
 
 abbrev pub Scene : Type 0
 Scene = FinMap path_cmp Entry

@@ -8,7 +8,8 @@ use Rattle.std.specs.BTreeSet as set
 use Rattle.std.specs.BTreeSet.{BTreeSet}
 use Rattle.std.proofs.lemmas.Map.Views.{btree_set_contains_iff}
 use Rattle.hd_value.specs.Locators.{is_prefix}
-use Rattle.hd_scene.specs.Scenes.{path_cmp, kind_at}
+use Rattle.hd_path.specs.Paths.{path_cmp}
+use Rattle.hd_scene.specs.Scenes.{kind_at}
 use Rattle.hd_scene.specs.declared.prims.Entry.{Entry}
 use Rattle.hd_scene.proofs.Children.{path_cmp_total, path_cmp_exact}
 use Rattle.hd_merging.specs.Merges.{first_kind, merged_entry, prims_at}

@@ -10,7 +10,8 @@ use Rattle.std.specs.declared.cmp.Ordering.TheVariants.{Less}
 use Rattle.std.specs.FinMap.{find, entries, get-entries}
 use Rattle.std.specs.BTreeSet as set
 use Rattle.std.specs.BTreeSet.{BTreeSet}
-use Rattle.hd_scene.specs.Scenes.{Scene, path_cmp, kind_at}
+use Rattle.hd_path.specs.Paths.{path_cmp}
+use Rattle.hd_scene.specs.Scenes.{Scene, kind_at}
 use Rattle.hd_scene.specs.declared.prims.Entry.{Entry}
 use Rattle.hd_scene.proofs.Ascending.{keys_ascend, same_ascending}
 use Rattle.hd_scene.proofs.Children.{path_cmp_total, path_cmp_exact}

@@ -13,7 +13,8 @@ use Rattle.hd_usda.specs.declared.limits.Which.TheVariants.{Prims, Depth}
 use Rattle.hd_usda.specs.Edits.{is_below_root, is_edit}
 use Rattle.hd_value.specs.Locators.{is_prefix}
 use Rattle.std.proofs.lemmas.Bool.{and_parts}
-use Rattle.hd_scene.specs.Scenes.{path_cmp, IsClosed}
+use Rattle.hd_path.specs.Paths.{path_cmp}
+use Rattle.hd_scene.specs.Scenes.{IsClosed}
 use Rattle.hd_scene.proofs.Children.{path_cmp_total}
 use Rattle.hd_scene.proofs.Closing.{tied}
 use Rattle.hd_retained.specs.declared.fault.EditFault.{EditFault}

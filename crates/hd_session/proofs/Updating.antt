@@ -6,7 +6,7 @@ use Rattle.std.proofs.lemmas.List.Folds.{list_any-append}
 use Rattle.std.specs.Ordering.{eq_by_cmp, is_eq}
 use Rattle.std.specs.BTreeSet as set
 use Rattle.std.specs.BTreeSet.{BTreeSet}
-use Rattle.hd_scene.specs.Scenes.{path_cmp}
+use Rattle.hd_path.specs.Paths.{path_cmp}
 use Rattle.hd_scene.proofs.Children.{path_cmp_total}
 use Rattle.hd_scene.proofs.Closing.{tied}
 use Rattle.hd_retained.specs.Layers.{Layer}

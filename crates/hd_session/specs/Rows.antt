@@ -6,7 +6,8 @@ use Rattle.std.specs.FinMap.{entries}
 use Rattle.std.specs.BTreeSet as set
 use Rattle.std.specs.BTreeSet.{BTreeSet}
 use Rattle.hd_value.specs.Locators.{is_same}
-use Rattle.hd_scene.specs.Scenes.{Scene, kind_at, path_cmp}
+use Rattle.hd_path.specs.Paths.{path_cmp}
+use Rattle.hd_scene.specs.Scenes.{Scene, kind_at}
 use Rattle.hd_scene.specs.declared.prims.Entry.{Entry}
 use Rattle.hd_retained.specs.Layers.{Layer}
 use Rattle.hd_stack.specs.Stacks.{composed}

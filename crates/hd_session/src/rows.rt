@@ -2,7 +2,7 @@
 
 ghost use Rattle.std.specs.Prelude.{◌≡◌, ◌∷◌, [], IfOk, OnOk};
 ghost use Rattle.std.specs.BTreeSet as set;
-ghost use Rattle.hd_scene.specs.Scenes.{path_cmp};
+ghost use Rattle.hd_path.specs.Paths.{path_cmp};
 ghost use Rattle.hd_stack.specs.Stacks.{composed};
 ghost use Rattle.hd_session.specs.Rows.{has_row, is_row, row_paths, IsUpdated};
 

@@ -8,7 +8,8 @@ use Rattle.hd_usda.specs.declared.spec.PrimSpec.{PrimSpec}
 use Rattle.hd_usda.specs.Limits.{limit_of}
 use Rattle.hd_usda.specs.Cursors.{rest}
 use Rattle.hd_usda.specs.Loops.{all}
-use Rattle.hd_usda.specs.Prims.{Path, path_cmp, Found, with_prim, layer_of}
+use Rattle.hd_path.specs.Paths.{path_cmp}
+use Rattle.hd_usda.specs.Prims.{Path, Found, with_prim, layer_of}
 use Rattle.hd_usda.specs.WellFormed.{is_prim_spec, ascend, has_parent, is_layer}
 use Rattle.hd_usda.proofs.OrderedPaths.{Entries, keys, with_entry, equal_path, itself, values_pass, stay_ordered, among, one_more, one_longer, IsKeyed, stay_keyed, keyed_paths}
 

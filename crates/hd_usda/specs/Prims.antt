@@ -1,10 +1,8 @@
 -- The layer: prims, their properties, and prims below them.
 use Rattle.std.specs.Prelude.{ℕ, zero, suc, ◌+◌, List, [], ◌∷◌, ◌++◌, length, map, Bool, false, ◌&&◌, ◌||◌, not, ◌==◌, nat_lt, nat_le, Result, Ok, Err, if◌then◌else◌, codes}
-use Rattle.std.specs.Ordering.{nat_cmp}
-use Rattle.std.specs.Cmp.Lexicographic.{slice_cmp}
-use Rattle.std.specs.declared.cmp.Ordering.{Ordering}
 use Rattle.std.specs.FinSet.{empty}
 use Rattle.std.specs.BTreeMap.{insert_entry}
+use Rattle.hd_path.specs.Paths.{path_cmp}
 use Rattle.hd_usda.specs.declared.lexer.Kind.TheVariants.{Word, Text, OpenCurly, CloseCurly, Semicolon, End}
 use Rattle.hd_usda.specs.declared.fault.LayerWhy.TheVariants.{Syntax, LeftOut, Limit}
 use Rattle.hd_usda.specs.declared.limits.Which.TheVariants.{Prims, Depth, Name}
@@ -21,10 +19,6 @@ use Rattle.hd_usda.specs.Items.{Seen, Body, new_name, property}
 -- a path is the list of its names
 abbrev pub Path : Type 0
 Path = List (List ℕ)
-
--- the order of paths
-abbrev pub path_cmp : Path → Path → Ordering
-path_cmp = slice_cmp (slice_cmp nat_cmp)
 
 -- the prims that ended so far, by their paths, and the number of those that began
 pub record Found : Type 0 where

@@ -17,7 +17,8 @@ use Rattle.hd_usda.specs.Limits.{limit_of}
 use Rattle.hd_usda.specs.Metadata.{is_any}
 use Rattle.hd_usda.specs.Names.{is_identifier}
 use Rattle.hd_usda.specs.Properties.{role_of, is_target_name, is_op_entry, visibilities, purposes}
-use Rattle.hd_usda.specs.Prims.{Path, path_cmp}
+use Rattle.hd_path.specs.Paths.{path_cmp}
+use Rattle.hd_usda.specs.Prims.{Path}
 
 -- within the limit of a literal
 abbrev pub is_small : ℤ → Bool

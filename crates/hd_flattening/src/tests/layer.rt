@@ -4,7 +4,8 @@ ghost use Rattle.std.specs.Prelude.{◌≡◌, ℕ, List, [], ◌∷◌, ◌++�
 ghost use Rattle.std.specs.List.{filter_map};
 ghost use Rattle.std.specs.FinMap.{get, insert, from_entries};
 ghost use Rattle.hd_value.specs.Shapes.{is_instanced, IsInstanced};
-ghost use Rattle.hd_scene.specs.Scenes.{path_cmp, child_name, children_of, IsClosed, IsShapedBy};
+ghost use Rattle.hd_path.specs.Paths.{path_cmp};
+ghost use Rattle.hd_scene.specs.Scenes.{child_name, children_of, IsClosed, IsShapedBy};
 
 use hd_num::List;
 use hd_path::{Path, Token};

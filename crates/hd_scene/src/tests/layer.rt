@@ -3,7 +3,8 @@
 ghost use Rattle.std.specs.Prelude.{◌≡◌, ℕ, List, [], ◌∷◌, ◌++◌, IsTrue, IsSome, IfOk, OnOk, OnErr, option_copied};
 ghost use Rattle.std.specs.List.{filter_map};
 ghost use Rattle.std.specs.FinMap.{get, insert, empty, from_entries};
-ghost use Rattle.hd_scene.specs.Scenes.{path_cmp, child_name, children_of, IsClosed};
+ghost use Rattle.hd_path.specs.Paths.{path_cmp};
+ghost use Rattle.hd_scene.specs.Scenes.{child_name, children_of, IsClosed};
 
 use crate::{Entry, Prim, SceneIndex};
 use hd_path::{Path, Token};

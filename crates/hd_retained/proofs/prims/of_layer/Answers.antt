@@ -1,7 +1,8 @@
 use Rattle.std.proofs.Common.{◌≡◌, List, take, map, sym, ◌∙◌, ap, subst}
 use Rattle.std.proofs.lemmas.List.{take_all}
 use Rattle.std.specs.FinMap.{insert, from_entries}
-use Rattle.hd_scene.specs.Scenes.{path_cmp, IsClosed}
+use Rattle.hd_path.specs.Paths.{path_cmp}
+use Rattle.hd_scene.specs.Scenes.{IsClosed}
 use Rattle.hd_retained.specs.declared.held.Place.{Place}
 use Rattle.hd_retained.specs.declared.held.Held.{Held}
 use Rattle.hd_retained.specs.Layers.{LayerPrim, Layer, layer_of, scene_of}

@@ -1,6 +1,6 @@
 use Rattle.std.proofs.Common.{take}
 use Rattle.std.specs.BTreeSet as set
-use Rattle.hd_scene.specs.Scenes.{path_cmp}
+use Rattle.hd_path.specs.Paths.{path_cmp}
 use Rattle.hd_session.specs.Rows.{IsUpdated}
 use Rattle.hd_session.proofs.rows.update_all.Given as goal
 

@@ -1,6 +1,6 @@
 use Rattle.std.proofs.Common.{ap}
 use Rattle.std.specs.FinMap.{from_entries}
-use Rattle.hd_scene.specs.Scenes.{path_cmp}
+use Rattle.hd_path.specs.Paths.{path_cmp}
 use Rattle.hd_value.specs.Shapes.{is_instanced}
 use Rattle.hd_scene.proofs.Closing.{empty_closed}
 use Rattle.hd_flattening.proofs.Shaping.{empty_shaped}
