@@ -31,27 +31,6 @@ fn read_file<S: Shelf>(
     Ok((bytes, failed))
 }
 
-/// Creates a file, writes all of the bytes and finishes it.
-fn write_file<R: Rack>(rack: &mut R, name: &str, bytes: &[u8]) -> Result<(), OutsideFault> {
-    rack.create(name)?;
-    let mut rest = bytes;
-    while !rest.is_empty() {
-        let count = rack.write(rest)?;
-        rest = &rest[count..];
-    }
-    rack.finish()
-}
-
-/// Writes all of the bytes.
-fn write_line<S: Sink>(sink: &mut S, bytes: &[u8]) -> Result<(), OutsideFault> {
-    let mut rest = bytes;
-    while !rest.is_empty() {
-        let count = sink.write(rest)?;
-        rest = &rest[count..];
-    }
-    Ok(())
-}
-
 fn sample_shelf(alloc: Global, failing: &[u64], piece: usize) -> Result<MemoryShelf, AllocError>
     requires { 1 ≤ piece }
 {

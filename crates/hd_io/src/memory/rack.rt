@@ -1,6 +1,6 @@
 //! A rack in memory.
 
-ghost use Rattle.std.specs.Prelude.{◌≡◌, ◌<◌, ◌≤◌, true, false, Some, [], IsTrue, length, min, take, OnOk, OnErr, IfOk, IsErrOf, slice_get};
+ghost use Rattle.std.specs.Prelude.{◌≡◌, ◌<◌, ◌≤◌, true, false, Some, [], IsTrue, length, min, take, OnOk, OnErr, IfOk, IsErr, IsErrOf, slice_get};
 ghost use Rattle.hd_io.specs.Causes.{HasCause};
 ghost use Rattle.hd_io.specs.Files.{file_list, with_bytes, with_file};
 ghost use Rattle.hd_io.specs.Memory.{first_call, IsDue, KeepsToPlan};
@@ -90,6 +90,7 @@ impl Rack for MemoryRack {
         // Only the plan makes it fail.
         ensures plan { KeepsToPlan self.old.calls self.new.calls result }
         ensures failed_only { IsErrOf result OutsideFault.Failed → IsDue self.old.calls }
+        ensures due { IsDue self.old.calls → IsErrOf result OutsideFault.Failed }
     {
         if self.calls.fails() {
             self.faults = self.faults.saturating_add(1);
@@ -116,6 +117,7 @@ impl Rack for MemoryRack {
         // Only the plan makes it fail.
         ensures plan { KeepsToPlan self.old.calls self.new.calls result }
         ensures failed_only { IsErrOf result OutsideFault.Failed → IsDue self.old.calls }
+        ensures due { IsDue self.old.calls → IsErrOf result OutsideFault.Failed }
     {
         if self.calls.fails() {
             self.faults = self.faults.saturating_add(1);
@@ -136,7 +138,8 @@ impl Rack for MemoryRack {
 
         // Only the plan makes it fail.
         ensures plan { KeepsToPlan self.old.calls self.new.calls result }
-        ensures failed_only { IsErrOf result OutsideFault.Failed → IsDue self.old.calls }
+        ensures failed_only { IsErr result → IsDue self.old.calls }
+        ensures due { IsDue self.old.calls → IsErrOf result OutsideFault.Failed }
     {
         if self.calls.fails() {
             self.faults = self.faults.saturating_add(1);

@@ -1,6 +1,6 @@
 //! A shelf in memory.
 
-ghost use Rattle.std.specs.Prelude.{◌≡◌, ◌⊎◌, ◌+◌, ◌-◌, ◌<◌, ◌≤◌, ◌≢◌, length, min, AllPairs, Option, IsSome, IsSomeAnd, MatchOption, Some, None, OnOk, OnErr, IfOk, IsErrOf, slice_get, string_bytes};
+ghost use Rattle.std.specs.Prelude.{◌≡◌, ◌⊎◌, ◌+◌, ◌-◌, ◌<◌, ◌≤◌, ◌≢◌, length, min, drop, AllPairs, Option, IsSome, IsSomeAnd, MatchOption, Some, None, OnOk, OnErr, IfOk, IsErr, slice_get, string_bytes};
 ghost use Rattle.hd_io.specs.Causes.{HasCause};
 ghost use Rattle.hd_io.specs.Failures.{failed_name};
 ghost use Rattle.hd_io.specs.MemoryShelf.{name_at, IsPlaced};
@@ -98,7 +98,7 @@ impl Shelf for MemoryShelf {
 
         // Only the plan and a missing name make it fail.
         ensures plan { KeepsToPlan self.old.calls self.new.calls result }
-        ensures failed_only { IsErrOf result OutsideFault.Failed →
+        ensures failed_only { IsErr result →
             IsDue self.old.calls ⊎ (bytes_of (file_map self.old.files) name.now ≡ None) }
     {
         if self.calls.fails() {
@@ -126,13 +126,15 @@ impl Shelf for MemoryShelf {
             n ≡ min self.old.calls.piece (min (length buffer.new) (length file - self.old.taken)))) }
         ensures bytes { IfOk result (λ n. IsSomeAnd (open_bytes (file_map self.old.files) self.old.opened) (λ file.
             ReadsNext file self.old.taken n buffer.new)) }
+        ensures behind { IfOk result (λ n. drop n buffer.new ≡ drop n buffer.old) }
+        ensures untouched { OnErr result (buffer.new ≡ buffer.old) }
 
         ensures failed { NamesFailure self.old.opened self.old.failed self.new.failed result }
         ensures cause { HasCause self.old.faults self.new.faults result }
 
         // Only the plan makes it fail.
         ensures plan { KeepsToPlan self.old.calls self.new.calls result }
-        ensures failed_only { IsErrOf result OutsideFault.Failed → IsDue self.old.calls }
+        ensures failed_only { IsErr result → IsDue self.old.calls }
     {
         let (name, bytes) = file_at(&self.files, self.reading, self.taken);
         if self.calls.fails() {
@@ -180,6 +182,7 @@ fn copy_next(file: &[u8], place: usize, piece: usize, buffer: &mut [u8]) -> usiz
 
     ensures count { result ≡ min piece (min (length buffer.new) (length file.now - place)) }
     ensures next { ReadsNext file.now place result buffer.new }
+    ensures behind { drop result buffer.new ≡ drop result buffer.old }
 {
     let rest = &file[place..];
     let count = piece.min(buffer.len()).min(rest.len());

@@ -68,6 +68,7 @@ impl Sink for MemorySink {
         // Only the plan makes it fail.
         ensures plan { KeepsToPlan self.old.calls self.new.calls result }
         ensures failed_only { IsErrOf result OutsideFault.Failed → IsDue self.old.calls }
+        ensures due { IsDue self.old.calls → IsErrOf result OutsideFault.Failed }
     {
         if self.calls.fails() {
             self.faults = self.faults.saturating_add(1);

@@ -1,7 +1,10 @@
 //! A rack over the files of the system.
 
-ghost use Rattle.std.specs.Prelude.{◌≡◌, ◌<◌, false, None};
+ghost use Rattle.std.specs.Prelude.{◌≡◌, ◌<◌, ◌≤◌, IsTrue, true, false, None, length, OnOk, OnErr, IfOk};
+ghost use Rattle.std.specs.Io.KnownBytes.{Keeps, WriteAppends};
+ghost use Rattle.hd_io.specs.Causes.{HasCause};
 
+use super::write_some;
 use crate::{OutsideFault, Rack};
 use std::fs::OpenFile;
 use std::io::Write;
@@ -9,7 +12,8 @@ use std::marker::Model;
 use std::rt::Files;
 use std::{fs, io};
 
-/// A rack over the files of the system. It tells no bytes.
+/// A rack over the files of the system. As a rack it tells no bytes; contracts see those of the open file where the
+/// file tells them.
 #[derive(Drop)]
 pub struct FileRack<R: Files> {
     rt: R,
@@ -19,11 +23,16 @@ pub struct FileRack<R: Files> {
 
 impl<R: Files> Model for FileRack<R> {
     ghost use Rattle.std.specs.Prelude.{is_some};
+    ghost use Rattle.std.specs.Option.{option_and_then};
     ghost use Rattle.hd_io.specs.Real.{FileRackState};
 
     ghost Value = { FileRackState };
 
-    ghost view = { λ r. record { is_open = is_some r.file; faults = r.faults } };
+    ghost view = { λ r. record {
+      is_open = is_some r.file;
+      bytes = option_and_then R.File.contents r.file;
+      faults = r.faults;
+    } };
 }
 
 impl<R: Files> FileRack<R> {
@@ -47,7 +56,12 @@ impl<R: Files> Rack for FileRack<R> {
 
     ghost faults = { λ r. r.faults };
 
-    fn create(&mut self, name: &str) -> Result<(), OutsideFault> {
+    fn create(&mut self, name: &str) -> Result<(), OutsideFault>
+        ensures opened { OnOk result (self.new.is_open ≡ true) }
+        ensures bytes { OnErr result (self.new.bytes ≡ self.old.bytes) }
+        ensures open { OnErr result (self.new.is_open ≡ self.old.is_open) }
+        ensures cause { HasCause self.old.faults self.new.faults result }
+    {
         let Ok(file) = fs::create(&self.rt, name) else {
             self.faults = self.faults.saturating_add(1);
             return Err(OutsideFault::Failed);
@@ -56,20 +70,35 @@ impl<R: Files> Rack for FileRack<R> {
         Ok(())
     }
 
-    fn write(&mut self, piece: &[u8]) -> Result<usize, OutsideFault> {
+    fn write(&mut self, piece: &[u8]) -> Result<usize, OutsideFault>
+        requires open { IsTrue self.old.is_open }
+        requires some { 0 < length piece.now }
+
+        ensures count { IfOk result (λ n. (1 ≤ n) × (n ≤ length piece.now)) }
+        ensures bytes { WriteAppends self.old.bytes self.new.bytes result piece.now }
+        ensures open { self.new.is_open ≡ self.old.is_open }
+        ensures cause { HasCause self.old.faults self.new.faults result }
+    {
         let Some(file) = &mut self.file else {
             unreachable!()
         };
-        match file.write(piece) {
-            Ok(count) if count > 0 => Ok(count),
-            _ => {
+        match write_some(file, piece) {
+            Some(count) => Ok(count),
+            None => {
                 self.faults = self.faults.saturating_add(1);
                 Err(OutsideFault::Failed)
             }
         }
     }
 
-    fn finish(&mut self) -> Result<(), OutsideFault> {
+    fn finish(&mut self) -> Result<(), OutsideFault>
+        requires { IsTrue self.old.is_open }
+
+        ensures closed { OnOk result (self.new.is_open ≡ false) }
+        ensures bytes { OnErr result (Keeps self.old.bytes self.new.bytes) }
+        ensures open { OnErr result (self.new.is_open ≡ self.old.is_open) }
+        ensures cause { HasCause self.old.faults self.new.faults result }
+    {
         let Some(file) = &mut self.file else {
             unreachable!()
         };
@@ -83,7 +112,9 @@ impl<R: Files> Rack for FileRack<R> {
 }
 
 /// Waits until the bytes of a file are kept, since an error after its last write would be lost when it is closed.
-fn sync<F: Write + OpenFile>(file: &mut F) -> io::Result<()> {
+fn sync<F: Write + OpenFile>(file: &mut F) -> io::Result<()>
+    ensures { Keeps (F.contents file.old) (F.contents file.new) }
+{
     file.flush()?;
     match file.sync_all() {
         // A pipe or a device keeps nothing that could be lost.

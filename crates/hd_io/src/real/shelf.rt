@@ -1,6 +1,7 @@
 //! A shelf over the files of the system.
 
-ghost use Rattle.std.specs.Prelude.{◌≡◌, ◌+◌, ◌<◌, ◌≤◌, length, Option, None, Some, OnErr, IfOk, string_bytes};
+ghost use Rattle.std.specs.Prelude.{◌≡◌, ◌+◌, ◌^◌, ◌<◌, ◌≤◌, length, Option, None, Some, IsSome, IsErr, OnErr, IfOk, string_bytes};
+ghost use Rattle.std.specs.Io.KnownBytes.{ReadConsumes};
 ghost use Rattle.hd_io.specs.Causes.{HasCause};
 ghost use Rattle.hd_io.specs.Failures.{failed_name};
 ghost use Rattle.hd_io.specs.Shelf.{NamesFailure};
@@ -22,12 +23,14 @@ struct Reading<F> {
 }
 
 impl<F: Read> Reading<F> {
-    /// Reads the next bytes, and notes a failure. A read after which the count of taken bytes might not fit fails.
+    /// Reads the next bytes, and notes a failure.
     fn read(&mut self, buffer: &mut [u8], failures: &mut Failures) -> Result<usize, OutsideFault>
         ensures name { string_bytes self.new.name ≡ string_bytes self.old.name }
         ensures count { IfOk result (λ n. n ≤ length buffer.new) }
         ensures taken { IfOk result (λ n. self.new.taken ≡ self.old.taken + n) }
         ensures untaken { OnErr result (self.new.taken ≡ self.old.taken) }
+        ensures full { 2 ^ 64 ≤ self.old.taken + length buffer.old → IsErr result }
+        ensures bytes { ReadConsumes (F.remaining self.old.file) (F.remaining self.new.file) result buffer.new }
         ensures failed { NamesFailure (Some (string_bytes self.old.name)) (failed_name failures.old) (failed_name failures.new) result }
         ensures cause { HasCause failures.old.count failures.new.count result }
     {
@@ -44,7 +47,8 @@ impl<F: Read> Reading<F> {
     }
 }
 
-/// A shelf over the files of the system. It tells no bytes.
+/// A shelf over the files of the system. As a shelf it tells no bytes; contracts see those that the open file has left
+/// where the file tells them.
 #[derive(Drop)]
 pub struct FileShelf<R: Files> {
     rt: R,
@@ -54,7 +58,7 @@ pub struct FileShelf<R: Files> {
 
 impl<R: Files> Model for FileShelf<R> {
     ghost use Rattle.std.specs.Prelude.{string_bytes};
-    ghost use Rattle.std.specs.Option.{option_map, option_map_or};
+    ghost use Rattle.std.specs.Option.{option_map, option_map_or, option_and_then};
     ghost use Rattle.hd_io.specs.Failures.{failed_name};
     ghost use Rattle.hd_io.specs.Real.{FileShelfState};
 
@@ -63,6 +67,7 @@ impl<R: Files> Model for FileShelf<R> {
     ghost view = { λ s. record {
       opened = option_map (λ reading. string_bytes reading.name) s.reading;
       taken = option_map_or (λ reading. reading.taken) s.reading 0;
+      left = option_and_then (λ reading. R.File.remaining reading.file) s.reading;
       faults = s.failures.count;
       failed = failed_name s.failures;
     } };
@@ -73,6 +78,7 @@ impl<R: Files> FileShelf<R> {
     pub fn new(rt: R, alloc: Global) -> FileShelf<R>
         ensures opened { result.opened ≡ None }
         ensures taken { result.taken ≡ 0 }
+        ensures left { result.left ≡ None }
         ensures faults { result.faults ≡ 0 }
         ensures failed { result.failed ≡ None }
     {
@@ -111,7 +117,22 @@ impl<R: Files> Shelf for FileShelf<R> {
         }
     }
 
-    fn read(&mut self, buffer: &mut [u8]) -> Result<usize, OutsideFault> {
+    fn read(&mut self, buffer: &mut [u8]) -> Result<usize, OutsideFault>
+        requires open { IsSome self.old.opened }
+        requires room { 0 < length buffer.old }
+
+        ensures opened { self.new.opened ≡ self.old.opened }
+        ensures count { IfOk result (λ n. n ≤ length buffer.new) }
+        ensures taken { IfOk result (λ n. self.new.taken ≡ self.old.taken + n) }
+        ensures untaken { OnErr result (self.new.taken ≡ self.old.taken) }
+
+        // A read after which the count of taken bytes might not fit fails.
+        ensures full { 2 ^ 64 ≤ self.old.taken + length buffer.old → IsErr result }
+        ensures bytes { ReadConsumes self.old.left self.new.left result buffer.new }
+
+        ensures failed { NamesFailure self.old.opened self.old.failed self.new.failed result }
+        ensures cause { HasCause self.old.faults self.new.faults result }
+    {
         let Some(mut reading) = self.reading.take() else {
             unreachable!()
         };

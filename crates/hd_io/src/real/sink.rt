@@ -2,6 +2,7 @@
 
 ghost use Rattle.std.specs.Prelude.{◌≡◌, ◌<◌, None};
 
+use super::write_some;
 use crate::{OutsideFault, Sink};
 use std::io;
 use std::io::Write;
@@ -38,9 +39,9 @@ impl<P: Print> Sink for OutSink<P> {
 
     fn write(&mut self, piece: &[u8]) -> Result<usize, OutsideFault> {
         let mut output = io::writer(&self.rt);
-        match output.write(piece) {
+        match write_some(&mut output, piece) {
             // What is reported as written is not to be lost when the process ends.
-            Ok(count) if count > 0 && output.flush().is_ok() => Ok(count),
+            Some(count) if output.flush().is_ok() => Ok(count),
             _ => {
                 self.faults = self.faults.saturating_add(1);
                 Err(OutsideFault::Failed)
