@@ -3,6 +3,7 @@
 ghost use Rattle.std.specs.Prelude.{Some, nat_eq};
 ghost use Rattle.std.specs.Cmp;
 ghost use Rattle.std.specs.Cmp.Lexicographic.{pointwise, slice_cmp, nat_list_eq_equiv, nat_list_cmp_total, texts_ties, texts_po};
+ghost use Rattle.std.specs.Fmt.{debug_str};
 ghost use Rattle.std.specs.Hash as fed;
 ghost use Rattle.std.specs.Ordering.{nat_cmp};
 ghost use Rattle.std.proofs.Common.{refl, ap};
@@ -65,6 +66,8 @@ impl Hash for Token {
 }
 
 impl fmt::Debug for Token {
+    ghost debug_output = { λ token. debug_str token };
+
     fn fmt<W: fmt::Write>(&self, f: &mut fmt::Formatter<W>) -> fmt::Result {
         fmt::Debug::fmt(&self.text(), f)
     }
@@ -123,6 +126,8 @@ impl Hash for Path {
 }
 
 impl fmt::Debug for Path {
+    ghost debug_output = { λ path. debug_str (path_text path) };
+
     fn fmt<W: fmt::Write>(&self, f: &mut fmt::Formatter<W>) -> fmt::Result {
         fmt::Debug::fmt(&self.as_text(), f)
     }
