@@ -6,3 +6,4 @@ pub mod Setting
 pub mod Overlaying
 pub mod Merging
 pub mod Free
+pub mod Grouping

@@ -1,8 +1,14 @@
-//! What holds of every set of locators.
+//! What holds of every set of locators, and of every value.
 
-ghost use Rattle.hd_value.specs.Laws.{InsertedIntersects};
+ghost use Rattle.hd_value.specs.Laws.{InsertedIntersects, FlattenedHaveOneGroup, InstancedHaveOneGroup};
 
 /// A set into which a locator was inserted intersects what it intersected before, and what that locator intersects.
 pub fn inserted_intersects()
     ensures { InsertedIntersects }
+{}
+
+/// Each value that may stand before flattening, and each one behind it, stands under the locators of exactly one group.
+pub fn values_have_one_group()
+    ensures before { InstancedHaveOneGroup }
+    ensures flattened { FlattenedHaveOneGroup }
 {}

@@ -12,7 +12,7 @@ mod value;
 pub use container::{Container, Source};
 pub use groups::Group;
 pub use hd_num::List;
-pub use laws::inserted_intersects;
+pub use laws::{inserted_intersects, values_have_one_group};
 pub use locator::Locator;
 pub use locator_set::LocatorSet;
 pub use value::Value;

@@ -1,0 +1,90 @@
+-- Each value stands under the locators of one group.
+use Rattle.std.proofs.Common.{◌≡◌, ℕ, Bool, true, false, ◌&&◌, ◌||◌, ◌==◌, List, [], ◌∷◌, ◌++◌, codes, refl, ap, sym, ◌∙◌}
+use Rattle.std.specs.List.{count_by, list_all}
+use Rattle.std.proofs.lemmas.Bool.Decides.{Decides-eqb}
+use Rattle.hd_value.specs.declared.value.Value.{Value}
+use Rattle.hd_value.specs.declared.value.Value.TheVariants.{Token, Tokens, Ints, Vecs, Color, Colors, Paths, Op, Matrix, Out, Flag}
+use Rattle.hd_value.specs.Groups.{locator_of_group, locators_before_flattening}
+use Rattle.hd_value.specs.Laws.{groups, FlattenedHaveOneGroup, InstancedHaveOneGroup}
+use Rattle.hd_value.specs.Locators.{is_same, is_prefix, intersects}
+use Rattle.hd_value.specs.LocatorSets.{touches}
+use Rattle.hd_value.specs.Shapes.{Row, passed_rows, flattened_away_rows, instanced_by_row, reset_row, flattened_rows, allows, two, is_named_op}
+use Rattle.hd_value.proofs.Prefixes.{and_true, same_text}
+
+not_true : {P : Type 0} → false ≡ true → P
+not_true e = absurd (none e)
+  where
+    none : false ≡ true → ⊥
+    none e = cc
+
+either : {P : Type 0} (a b : Bool) → (a || b) ≡ true → (a ≡ true → P) → (b ≡ true → P) → P
+either true b e left right = left refl
+either false b e left right = right e
+
+-- two locators that begin with each other are one
+both_prefixes : (a b : List (List ℕ)) → is_prefix a b ≡ true → is_prefix b a ≡ true → a ≡ b
+both_prefixes [] [] e f = refl
+both_prefixes [] (y ∷ b) e f = not_true f
+both_prefixes (x ∷ a) [] e f = not_true e
+both_prefixes (x ∷ a) (y ∷ b) e f =
+    let front = and_true (is_same x y) (is_prefix a b) e in
+    let back = and_true (is_same y x) (is_prefix b a) f in
+    ap (λ w. w ∷ a) (same_text x y front.0) ∙ ap (λ t. y ∷ t) (both_prefixes a b front.1 back.1)
+
+-- what holds of the locator of each row holds where a row allows a value
+at_rows : (test : List (List ℕ) → Bool) (rows : List Row) (at : List (List ℕ)) (v : Value) → list_all (λ (row : Row). test row.0) rows ≡ true → allows rows at v ≡ true → test at ≡ true
+at_rows test [] at v all e = not_true e
+at_rows test (row ∷ rows) at v all e =
+    let each = and_true (test row.0) (list_all (λ (r : Row). test r.0) rows) all in
+    either (is_prefix row.0 at && is_prefix at row.0 && row.1 v) (allows rows at v) e
+    (λ here.
+    let there = and_true (is_prefix row.0 at && is_prefix at row.0) (row.1 v) here in
+    let prefixes = and_true (is_prefix row.0 at) (is_prefix at row.0) there.0 in
+    ap test (sym (both_prefixes row.0 at prefixes.0 prefixes.1)) ∙ each.0)
+    (λ later. at_rows test rows at v each.1 later)
+
+-- what holds of the locator of each op holds where an op may stand
+at_ops : (test : List (List ℕ) → Bool) (at : List (List ℕ)) (v : Value) → ((name : List ℕ) → test (codes "xform" ∷ codes "ops" ∷ name ∷ []) ≡ true) → is_named_op at v ≡ true → test at ≡ true
+at_ops test (a ∷ b ∷ name ∷ []) (Op op) all e =
+    let both = and_true (is_prefix (two (codes "xform") (codes "ops")) (a ∷ b ∷ [])) _ e in
+    let first = and_true (is_same (codes "xform") a) (is_same (codes "ops") b && true) both.0 in
+    let second = and_true (is_same (codes "ops") b) true first.1 in
+    ap (λ (w : List ℕ). test (w ∷ b ∷ name ∷ [])) (sym (same_text (codes "xform") a first.0))
+    ∙ ap (λ (w : List ℕ). test (codes "xform" ∷ w ∷ name ∷ [])) (sym (same_text (codes "ops") b second.0))
+    ∙ all name
+at_ops test (a ∷ b ∷ name ∷ []) (Token t) all e = not_true e
+at_ops test (a ∷ b ∷ name ∷ []) (Tokens ts) all e = not_true e
+at_ops test (a ∷ b ∷ name ∷ []) (Ints ns) all e = not_true e
+at_ops test (a ∷ b ∷ name ∷ []) (Vecs vs) all e = not_true e
+at_ops test (a ∷ b ∷ name ∷ []) (Color c) all e = not_true e
+at_ops test (a ∷ b ∷ name ∷ []) (Colors cs) all e = not_true e
+at_ops test (a ∷ b ∷ name ∷ []) (Paths ps) all e = not_true e
+at_ops test (a ∷ b ∷ name ∷ []) (Matrix m) all e = not_true e
+at_ops test (a ∷ b ∷ name ∷ []) Out all e = not_true e
+at_ops test (a ∷ b ∷ name ∷ []) (Flag flag) all e = not_true e
+at_ops test [] v all e = not_true e
+at_ops test (a ∷ []) v all e = not_true e
+at_ops test (a ∷ b ∷ []) v all e = not_true e
+at_ops test (a ∷ b ∷ name ∷ more ∷ rest) v all e = not_true e
+
+abbrev in_one : List (List ℕ) → Bool
+in_one at = count_by (λ group. intersects (locator_of_group group) at) groups == 1
+
+abbrev in_one_before : List (List ℕ) → Bool
+in_one_before at = count_by (λ group. touches (locators_before_flattening group) at) groups == 1
+
+pub flattened_have_one_group : FlattenedHaveOneGroup
+flattened_have_one_group at v e =
+    (Decides-eqb (count_by (λ group. intersects (locator_of_group group) at) groups) 1).0
+    (either (allows passed_rows at v || allows (instanced_by_row ∷ []) at v) (allows flattened_rows at v) e
+    (λ kept. either (allows passed_rows at v) (allows (instanced_by_row ∷ []) at v) kept (at_rows in_one passed_rows at v refl) (at_rows in_one (instanced_by_row ∷ []) at v refl))
+    (at_rows in_one flattened_rows at v refl))
+
+pub instanced_have_one_group : InstancedHaveOneGroup
+instanced_have_one_group at v e =
+    (Decides-eqb (count_by (λ group. touches (locators_before_flattening group) at) groups) 1).0
+    (either ((allows passed_rows at v || allows flattened_away_rows at v) || is_named_op at v) (allows (instanced_by_row ∷ reset_row ∷ []) at v) e
+    (λ authored. either (allows passed_rows at v || allows flattened_away_rows at v) (is_named_op at v) authored
+    (λ row. either (allows passed_rows at v) (allows flattened_away_rows at v) row (at_rows in_one_before passed_rows at v refl) (at_rows in_one_before flattened_away_rows at v refl))
+    (at_ops in_one_before at v (λ name. refl)))
+    (at_rows in_one_before (instanced_by_row ∷ reset_row ∷ []) at v refl))
