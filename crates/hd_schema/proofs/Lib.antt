@@ -5,3 +5,4 @@ pub mod Putting
 pub mod Sorting
 pub mod OpNames
 pub mod Shaping
+pub mod Valued

@@ -124,12 +124,12 @@ op_shaped name v op e =
     let kind : shapes.kind_of op ≡ k.kind = found_among IsOfKind (λ (x : OpValue). bytes_eq (kind_of name) x.kind) op_values k of_kinds found v op made in
     ap (is_name_of_kind (drop 8 name)) kind ∙ named_kind [] (drop 8 name) k.kind is)
 
--- a fact of the kinds of ops holds of the role that an op has
-pub role_among : (Fact : OpKind → Type 0) → Each Fact usda.op_kinds → {P : Type 0} (name : List ℕ) (role : Role) → op_role name ≡ Some role → ((k : OpKind) → Fact k → k.role ≡ role → P) → P
+-- a fact of the kinds of ops holds of the kind in the name of an op, and of its role
+pub role_among : (Fact : OpKind → Type 0) → Each Fact usda.op_kinds → {P : Type 0} (name : List ℕ) (role : Role) → op_role name ≡ Some role → ((k : OpKind) → Fact k → kind_of name ≡ k.name → k.role ≡ role → P) → P
 unfolding op_role
 role_among Fact each {P} name role e use_it =
     elim (begins_op name && is_joined name) as (λ b. cond b (kind_role (first_part (drop 8 name))) None ≡ Some role → P) [
-      | true ↦ λ there. mapped (λ (k : OpKind). k.role) (find (λ (k : OpKind). bytes_eq (first_part (drop 8 name)) k.name) usda.op_kinds) role there (λ k found is. use_it k (found_among Fact (λ (x : OpKind). bytes_eq (first_part (drop 8 name)) x.name) usda.op_kinds k each found) is)
+      | true ↦ λ there. mapped (λ (k : OpKind). k.role) (find (λ (k : OpKind). bytes_eq (first_part (drop 8 name)) k.name) usda.op_kinds) role there (λ k found is. use_it k (found_among Fact (λ (x : OpKind). bytes_eq (first_part (drop 8 name)) x.name) usda.op_kinds k each found) ((bytes_decides (first_part (drop 8 name)) k.name).0 (found_passes (λ (x : OpKind). bytes_eq (first_part (drop 8 name)) x.name) usda.op_kinds k found)) is)
       | false ↦ λ no. absurd (nothing no)
     ] e
   where

@@ -63,7 +63,7 @@ all_lit [] = refl
 all_lit (v ∷ vs) = rw (lit v.x, lit v.y, lit v.z) (all_lit vs)
 
 -- the form of what a property's value is
-content_form : Content → RawValue → Bool
+abbrev pub content_form : Content → RawValue → Bool
 content_form (Attribute role) v = has_form role v
 content_form Targets v = are_paths (is_list is_path) v
 
@@ -72,7 +72,7 @@ IsShaped : Row → Type 0
 IsShaped r = (v : RawValue) (x : Value) → content_form r.content v ≡ true → content_value r.content r.name v ≡ Some x → is_authored r.locator x ≡ true
 
 rows_shaped : Each IsShaped table
-unfolding content_form IsShaped
+unfolding IsShaped
 rows_shaped = (
   λ v x form made. shown (codes "primvars" ∷ codes "points" ∷ []) value.Vecs (triples v) x made (λ _ _. refl),
   (
@@ -120,13 +120,12 @@ roles_give_ops = (λ _ _. refl, (λ _ _. refl, (λ _ _. refl, (λ _ _. refl, (λ
 
 op_row_shaped : (name : List ℕ) (r : Row) (v : RawValue) (x : Value) → IsOp name r → content_value r.content name v ≡ Some x → is_authored r.locator x ≡ true
 op_row_shaped name r v x h made =
-    role_among GivesOp roles_give_ops name h.role h.used (λ k gives same.
+    role_among GivesOp roles_give_ops name h.role h.used (λ k gives _ same.
     let is_op : op name v ≡ Some x = sym (gives name v) ∙ ap (λ (role : Role). attribute_value role name v) same ∙ ap (λ (s : Row). content_value s.content name v) (sym h.is) ∙ made in
     ap (λ (s : Row). is_authored s.locator x) h.is
     ∙ shown (below_ops (drop 8 name)) value.Op (op_of_kind (own.kind_of name) v) x is_op (λ o there. op_shaped name v o there))
 
-form_of : (c : Content) (name : List ℕ) (v : RawValue) → has_value (role_in c) name v ≡ true → content_form c v ≡ true
-unfolding content_form
+pub form_of : (c : Content) (name : List ℕ) (v : RawValue) → has_value (role_in c) name v ≡ true → content_form c v ≡ true
 form_of (Attribute role) name v e = e
 form_of Targets name v e = (and_true (is_target_name name) (are_paths (is_list is_path) v) e).1
 

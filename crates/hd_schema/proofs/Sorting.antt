@@ -138,14 +138,19 @@ none_found : {X : Type 0} (o : Option X) → is_some o ≡ false → o ≡ None
 none_found None e = refl
 none_found (Some x) e = true_is_not e
 
+-- a property that stands once is the one that is found at its place
+pub found_own : (ps : List Property) (q : List (List ℕ)) (p : Property) → IsOnce ps → Contains ps p → locator_of p.name ≡ Some q → find (λ (x : Property). stands_at x.name q) ps ≡ Some p
+found_own ps q p h there located =
+    let once : count (has_name p.name) ps ≤ 1 = h.once p.name in
+    let same = count_same (λ (x : Property). stands_at x.name q) (has_name p.name) (named_there q p located) ps in
+    found_only (λ (x : Property). stands_at x.name q) ps p (omega (arith, same)) (located_stands p.name q located) there
+
 found_permuted : (ps qs : List Property) (q : List (List ℕ)) → IsPermutation ps qs → IsOnce ps → find (λ (x : Property). stands_at x.name q) qs ≡ find (λ (x : Property). stands_at x.name q) ps
 found_permuted ps qs q moved h =
     elim (find (λ (x : Property). stands_at x.name q) ps) as (λ o. find (λ (x : Property). stands_at x.name q) ps ≡ o → find (λ (x : Property). stands_at x.name q) qs ≡ o) [
       | Some p ↦ λ found.
-          let passes : stands_at p.name q ≡ true = found_passes (λ (x : Property). stands_at x.name q) ps p found in
-          let once : count (has_name p.name) qs ≤ 1 = (permuted_once ps qs moved h).once p.name in
-          let same = count_same (λ (x : Property). stands_at x.name q) (has_name p.name) (named_there q p (standing p.name q passes)) qs in
-          found_only (λ (x : Property). stands_at x.name q) qs p (omega (arith, same)) passes (Contains-permutation ps qs p moved (found_there (λ (x : Property). stands_at x.name q) ps p found))
+          let located = standing p.name q (found_passes (λ (x : Property). stands_at x.name q) ps p found) in
+          found_own qs q p (permuted_once ps qs moved h) (Contains-permutation ps qs p moved (found_there (λ (x : Property). stands_at x.name q) ps p found)) located
       | None ↦ λ none.
           none_found (find (λ (x : Property). stands_at x.name q) qs)
           (is_some-find (λ (x : Property). stands_at x.name q) qs ∙ sym (list_any-IsPermutation (λ (x : Property). stands_at x.name q) ps qs moved) ∙ sym (is_some-find (λ (x : Property). stands_at x.name q) ps) ∙ ap is_some none)

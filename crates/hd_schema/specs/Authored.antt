@@ -1,5 +1,6 @@
 -- The values that the properties of a prim author.
-use Rattle.std.specs.Prelude.{◌≢◌, ℕ, List, [], Option, Some, None, find}
+use Rattle.std.specs.Prelude.{◌≡◌, ◌≢◌, ℕ, List, [], Option, Some, None, IsSomeAnd, find}
+use Rattle.std.specs.FinMap.{get}
 use Rattle.std.specs.Option.{option_and_then}
 use Rattle.hd_usda.specs.declared.spec.Property.{Property}
 use Rattle.hd_usda.specs.Properties.{locator_of}
@@ -15,6 +16,10 @@ property_value p = value_of p.name p.value
 -- at a locator, the value of the property whose locator it is
 abbrev pub authored_at : List Property → List (List ℕ) → Option Value
 authored_at properties at = option_and_then property_value (find (λ p. stands_at p.name at) properties)
+
+-- the property has a locator, and its value stands there
+abbrev pub HasValueOf : Map → Property → Type 0
+HasValueOf m p = IsSomeAnd (locator_of p.name) (λ at. IsSomeAnd (property_value p) (λ value. get m at ≡ Some value))
 
 -- the map with a value at a locator, where there are both
 abbrev pub with_both : Map → Option (List (List ℕ)) → Option Value → Map

@@ -1,6 +1,6 @@
 //! The values that the properties of a prim author.
 
-ghost use Rattle.std.specs.Prelude.{◌≡◌, ℕ, List, map, IsTrue, IsPermutation, IfOk, OnOk};
+ghost use Rattle.std.specs.Prelude.{◌≡◌, ℕ, List, All, map, IsTrue, IsPermutation, IfOk, OnOk};
 ghost use Rattle.std.specs.Cmp.Lexicographic.{slice_cmp};
 ghost use Rattle.std.specs.FinMap.{get};
 ghost use Rattle.std.specs.List.Sorted.{IsSortedByKey};
@@ -8,7 +8,7 @@ ghost use Rattle.std.specs.Ordering.{nat_cmp};
 ghost use Rattle.hd_usda.specs.Properties.{locator_of};
 ghost use Rattle.hd_usda.specs.WellFormed.{is_prim_spec};
 ghost use Rattle.hd_value.specs.Shapes.{IsAuthored};
-ghost use Rattle.hd_schema.specs.Authored.{authored_at, with_property, IsFreeAt};
+ghost use Rattle.hd_schema.specs.Authored.{authored_at, with_property, HasValueOf, IsFreeAt};
 
 use crate::locating::locator_of;
 use crate::values::value_of;
@@ -24,6 +24,7 @@ use std::alloc::{AllocError, Global};
 pub fn to_container(alloc: Global, prim: &PrimSpec) -> Result<Container, AllocError>
     requires well_formed { IsTrue (is_prim_spec prim.now) }
     ensures values { IfOk result (λ values. (at : List (List ℕ)) → get values at ≡ authored_at prim.now.properties at) }
+    ensures each { IfOk result (λ values. All (HasValueOf values) prim.now.properties) }
     ensures shaped { IfOk result (λ values. IsAuthored values) }
 {
     let properties = by_name(alloc, prim.properties.items())?;
