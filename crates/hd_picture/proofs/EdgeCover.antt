@@ -64,7 +64,7 @@ ring_x ux uy vx vy tx ty = simp sub-mul (omega (arith, same_in, sum_is_lem, neg_
 ring_y : (ux uy vx vy tx ty : ℤ) → (vx *ℤ ty -ℤ vy *ℤ tx) *ℤ uy ≡ (ux *ℤ ty -ℤ uy *ℤ tx) *ℤ vy -ℤ (ux *ℤ vy -ℤ uy *ℤ vx) *ℤ ty
 ring_y ux uy vx vy tx ty = simp sub-mul (omega (arith, same_in, sum_is_lem, neg_is, triple_is))
 
-edge_def : (a b q : Place) → edge a b q ≡ (b.x -ℤ a.x) *ℤ (q.y -ℤ a.y) -ℤ (b.y -ℤ a.y) *ℤ (q.x -ℤ a.x)
+pub edge_def : (a b q : Place) → edge a b q ≡ (b.x -ℤ a.x) *ℤ (q.y -ℤ a.y) -ℤ (b.y -ℤ a.y) *ℤ (q.x -ℤ a.x)
 unfolding edge
 edge_def a b q = refl
 

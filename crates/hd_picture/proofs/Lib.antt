@@ -6,8 +6,10 @@ pub mod Crosses
 pub mod EdgeCover
 pub mod FaceLemmas
 pub mod Floors
+pub mod InTiles
 pub mod Integers
 pub mod NearestLemmas
+pub mod Neighbours
 pub mod QuotientLemmas
 pub mod RowEnds
 pub mod ScanLemmas

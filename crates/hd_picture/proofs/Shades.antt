@@ -1,12 +1,13 @@
 -- The nearest fragment after one more triangle.
-use Rattle.std.proofs.Common.{◌≡◌, ◌∙◌, ap, ◌⊎◌, inl, inr, arith, refl, sym, Bool, true, false, cond, ℤ, ◌^◌, pos, neg_ℤ, ◌≤ℤ◌, ◌<ℤ◌, int_le, int_lt, None, Some, Option}
+use Rattle.std.proofs.Common.{◌≡◌, ◌∙◌, ap, ◌⊎◌, inl, inr, arith, refl, sym, Bool, true, false, cond, ℤ, ◌^◌, pos, neg_ℤ, ◌+ℤ◌, ◌≤ℤ◌, ◌<ℤ◌, int_le, int_lt, None, Some, Option}
 use Rattle.std.proofs.lemmas.Int.{by_lt_z, clamps, ints}
+use Rattle.std.specs.Int.{int_min}
 use Rattle.std.specs.Option.{option_map_or}
 use Rattle.hd_picture.specs.declared.draws.WorldTri.{WorldTri}
 use Rattle.hd_picture.specs.declared.edges.Weights.{Weights}
 use Rattle.hd_picture.specs.declared.nearest.Fragment.{Fragment}
 use Rattle.hd_picture.specs.Depth.{depth}
-use Rattle.hd_picture.specs.Shading.{fragment_by, hides, highest, nearer}
+use Rattle.hd_picture.specs.Shading.{IsBetween, fragment_by, hides, highest, nearer}
 use Rattle.hd_num.specs.declared.vector.Vec3.{Vec3}
 use Rattle.hd_picture.specs.declared.projection.Place.{Place}
 use Rattle.hd_picture.specs.Coverage.{covers, weights_seen}
@@ -66,16 +67,43 @@ nearer_seen best w tri eye_z l h =
     let e : true ≡ int_le (depth w tri) eye_z = omega (arith, ints) in
     rw (sym e, h)
 
--- what a triangle covers is not farther than its farthest corner can be
-pub covered_least : (w : Weights) (tri : WorldTri) → covers w ≡ true → IsTriWithin (2 ^ 24) tri → neg_ℤ (pos (2 ^ 24)) ≤ℤ depth w tri
-covered_least w tri h near = by (covers_cases w h)
+-- what a triangle covers is not farther than its farthest corner
+covered_least : (w : Weights) (tri : WorldTri) (m : ℤ) → covers w ≡ true → m ≤ℤ tri.a.z → m ≤ℤ tri.b.z → m ≤ℤ tri.c.z → m ≤ℤ depth w tri
+covered_least w tri m h ha hb hc = by (covers_cases w h)
   where
-    by : IsLeft w ⊎ IsRight w → neg_ℤ (pos (2 ^ 24)) ≤ℤ depth w tri
-    by (inl l) = depth_least w tri l (neg_ℤ (pos (2 ^ 24))) near.a.z.low near.b.z.low near.c.z.low
+    by : IsLeft w ⊎ IsRight w → m ≤ℤ depth w tri
+    by (inl l) = depth_least w tri l m ha hb hc
     by (inr r) =
         let l : IsLeft (turned_over w) = record { a = omega (arith, ints); b = omega (arith, ints); c = omega (arith, ints); area = omega (arith, ints) } in
         let same : depth (turned_over w) tri ≡ depth w tri = depth-turned_over w tri (λ e. omega (arith, ints)) in
-        rw (sym same) (depth_least (turned_over w) tri l (neg_ℤ (pos (2 ^ 24))) near.a.z.low near.b.z.low near.c.z.low)
+        rw (sym same) (depth_least (turned_over w) tri l m ha hb hc)
+
+pub depth_between : (w : Weights) (tri : WorldTri) → covers w ≡ true → IsBetween tri.a.z tri.b.z tri.c.z (depth w tri)
+depth_between w tri h = record {
+  least = covered_least w tri (int_min tri.a.z (int_min tri.b.z tri.c.z)) h (omega (arith, ints, clamps)) (omega (arith, ints, clamps)) (omega (arith, ints, clamps));
+  greatest = covered_most w tri h;
+}
+
+pub flat_has_one_depth : (w : Weights) (tri : WorldTri) → tri.a.z ≡ tri.b.z → tri.b.z ≡ tri.c.z → covers w ≡ true → depth w tri ≡ tri.a.z
+flat_has_one_depth w tri ab bc h =
+    let between = depth_between w tri h in
+    let low = between.least in
+    let high = between.greatest in
+    omega (arith, ints, clamps)
+
+-- what is beyond the eye shows nothing
+pub beyond_shows_nothing : (eye : Vec3) (q : Place) (tri : WorldTri) → eye.z <ℤ tri.a.z → eye.z <ℤ tri.b.z → eye.z <ℤ tri.c.z → fragment eye q tri ≡ None
+beyond_shows_nothing eye q tri ha hb hc = fragment_is eye q tri ∙ by (covers w) refl
+  where
+    w : Weights
+    w = weights_seen eye tri q
+
+    by : (t : Bool) → covers w ≡ t → cond t (fragment_by w tri eye.z) None ≡ None
+    by true e =
+        let low = covered_least w tri (eye.z +ℤ pos 1) e (omega (arith, ints)) (omega (arith, ints)) (omega (arith, ints)) in
+        let beyond : false ≡ int_le (depth w tri) eye.z = omega (arith, ints) in
+        rw (sym beyond)
+    by false e = refl
 
 -- a fragment that hides all of a triangle stays
 pub over_below : (cell : Fragment) (eye : Vec3) (q : Place) (tri : WorldTri) → highest tri ≤ℤ cell.depth → over cell (fragment eye q tri) ≡ cell
@@ -121,7 +149,7 @@ over_nearest best eye q tri near = rw (fragment_is eye q tri) (by (covers w) ref
     by true e = by_seen (int_le (depth w tri) eye.z)
       where
         by_seen : (t : Bool) → over (cell_of best) (cond t (Some (record { depth = depth w tri; color = tri.color })) None) ≡ cell_of (nearer best (cond t (Some (record { depth = depth w tri; color = tri.color })) None))
-        by_seen true = over_more best (record { depth = depth w tri; color = tri.color }) (covered_least w tri e near)
+        by_seen true = over_more best (record { depth = depth w tri; color = tri.color }) (covered_least w tri (neg_ℤ (pos (2 ^ 24))) e near.a.z.low near.b.z.low near.c.z.low)
         by_seen false = refl
     by false e = refl
 

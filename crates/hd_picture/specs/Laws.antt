@@ -1,14 +1,17 @@
 -- What follows from the definitions.
-use Rattle.std.specs.Prelude.{◌≡◌, ℕ, ◌<◌, List, [], ◌∷◌, ◌++◌, length, None, IsTrue, ◌≢◌, ◌⊎◌, ℤ, pos, ◌+ℤ◌, ◌*ℤ◌, neg_ℤ, ◌≤ℤ◌, ◌<ℤ◌, slice_index_or}
-use Rattle.std.specs.Int.{int_max, int_min}
+use Rattle.std.specs.Prelude.{◌≡◌, ℕ, ◌+◌, ◌*◌, ◌/◌, ◌%◌, ◌<◌, List, [], ◌∷◌, ◌++◌, length, None, IsTrue, ◌≢◌, ◌⊎◌, ℤ, pos, ◌+ℤ◌, ◌*ℤ◌, neg_ℤ, ◌≤ℤ◌, ◌<ℤ◌, slice_index_or}
+use Rattle.std.specs.Int.{div_ceil, int_max, int_min}
 use Rattle.hd_num.specs.declared.vector.Vec3.{Vec3}
+use Rattle.hd_picture.specs.declared.draws.Draws.{Draws}
 use Rattle.hd_picture.specs.declared.draws.WorldTri.{WorldTri}
+use Rattle.hd_picture.specs.declared.edges.Weights.{Weights}
 use Rattle.hd_picture.specs.declared.nearest.Fragment.{Fragment}
 use Rattle.hd_picture.specs.declared.projection.Place.{Place}
-use Rattle.hd_picture.specs.Coverage.{covers, edge, total, weights_seen}
-use Rattle.hd_picture.specs.Depth.{floor_div}
-use Rattle.hd_picture.specs.Pixels.{black, fragment, fragments, shown}
-use Rattle.hd_picture.specs.Shading.{IsInBox}
+use Rattle.hd_picture.specs.Coverage.{covers, edge, total, weights, weights_seen}
+use Rattle.hd_picture.specs.Depth.{depth, floor_div}
+use Rattle.hd_picture.specs.Pixels.{black, fragment, fragments, pixel, shown}
+use Rattle.hd_picture.specs.Shading.{IsBetween, IsInBox}
+use Rattle.hd_picture.specs.Tiling.{tile, tile_count}
 use Rattle.hd_picture.specs.View.{projected}
 
 -- the quotient rounded down is the greatest whole number at most n / d, and does not change where both signs do
@@ -19,6 +22,19 @@ pub record RoundsDown (n d : ℤ) : Type 0 where
 
 abbrev pub EachRoundsDown : Type 0
 EachRoundsDown = (n d : ℤ) → RoundsDown n d
+
+-- the depth at a place that a triangle covers is between those of its corners
+abbrev pub DepthsStayBetween : Type 0
+DepthsStayBetween = (w : Weights) (tri : WorldTri) → IsTrue (covers w) → IsBetween tri.a.z tri.b.z tri.c.z (depth w tri)
+
+-- the depth of a flat triangle is that of its corners
+abbrev pub FlatHasOneDepth : Type 0
+FlatHasOneDepth = (w : Weights) (tri : WorldTri) → tri.a.z ≡ tri.b.z → tri.b.z ≡ tri.c.z → IsTrue (covers w) → depth w tri ≡ tri.a.z
+
+-- a triangle whose corners are all beyond the eye shows nothing
+abbrev pub BeyondShowsNothing : Type 0
+BeyondShowsNothing = (eye : Vec3) (q : Place) (tri : WorldTri)
+    → eye.z <ℤ tri.a.z → eye.z <ℤ tri.b.z → eye.z <ℤ tri.c.z → fragment eye q tri ≡ None
 
 -- the triangle from its next corner on, and with its other side in front
 abbrev pub turned : WorldTri → WorldTri
@@ -53,6 +69,20 @@ CoversEdges = (eye : Vec3) (q : Place) (tri : WorldTri)
     → IsInEdgeBox (projected eye tri.a) (projected eye tri.b) q
     → IsTrue (covers (weights_seen eye tri q))
 
+-- a triangle's weights have the same sum at each place: the edge function of ab at c, above 0 where the corners turn to the left
+abbrev pub WeightsAddUp : Type 0
+WeightsAddUp = (a b c q : Place) → total (weights a b c q) ≡ edge a b c
+
+-- of two triangles abc and acd one covers what is on no outer side of ab, bc, cd and da; both cover only what is on the line of ac
+pub record FitsAtEdge (a b c d q : Place) : Type 0 where
+  pub no_gap : pos 0 ≤ℤ edge a b q → pos 0 ≤ℤ edge b c q → pos 0 ≤ℤ edge c d q → pos 0 ≤ℤ edge d a q
+      → IsTrue (covers (weights a b c q)) ⊎ IsTrue (covers (weights a c d q))
+  pub no_overlap : IsTrue (covers (weights a b c q)) → IsTrue (covers (weights a c d q)) → edge a c q ≡ pos 0
+
+-- two triangles that turn left, on both sides of an edge
+abbrev pub NeighboursFit : Type 0
+NeighboursFit = (a b c d q : Place) → pos 0 <ℤ edge a b c → pos 0 <ℤ edge a c d → FitsAtEdge a b c d q
+
 -- a triangle that shows nothing at a place changes nothing there, wherever it stands in the list
 abbrev pub UnseenChangesNothing : Type 0
 UnseenChangesNothing = (eye : Vec3) (q : Place) (before after : List WorldTri) (tri : WorldTri)
@@ -71,3 +101,11 @@ abbrev pub ShowsFirstNearest : Type 0
 ShowsFirstNearest = (fs : List Fragment)
     → ((fs ≡ []) × (shown fs ≡ black))
     ⊎ ((i : ℕ) × (f : Fragment) × IsFirstNearest fs i f × (shown fs ≡ f.color))
+
+-- the pixel in column x of row y stands in one of the tiles
+pub record StandsInTile (draws : Draws) (x y : ℕ) : Type 0 where
+  pub number : y / 16 * div_ceil draws.width 16 + x / 16 < tile_count draws.width draws.height
+  pub color : slice_index_or (tile draws (y / 16 * div_ceil draws.width 16 + x / 16)) (y % 16 * 16 + x % 16) black ≡ pixel draws x y
+
+abbrev pub TilesMakeThePicture : Type 0
+TilesMakeThePicture = (draws : Draws) (x y : ℕ) → x < draws.width → y < draws.height → StandsInTile draws x y

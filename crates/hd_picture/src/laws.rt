@@ -1,11 +1,22 @@
 //! What follows from the definitions of the picture. The functions do nothing; their contracts are
 //! the laws.
 
-ghost use Rattle.hd_picture.specs.Laws.{CoversEdges, CoversInBox, EachRoundsDown, MirroredShowsTheSame, ShowsFirstNearest, TurnedShowsTheSame, UnseenChangesNothing};
+ghost use Rattle.hd_picture.specs.Laws.{BeyondShowsNothing, CoversEdges, CoversInBox, DepthsStayBetween, EachRoundsDown, FlatHasOneDepth, MirroredShowsTheSame, NeighboursFit, ShowsFirstNearest, TilesMakeThePicture, TurnedShowsTheSame, UnseenChangesNothing, WeightsAddUp};
 
 /// Depths are rounded down.
 pub fn depths_round_down()
     ensures { EachRoundsDown }
+{}
+
+/// A triangle's depth is between those of its corners, and is theirs where it is flat.
+pub fn depths_stay_between()
+    ensures between { DepthsStayBetween }
+    ensures flat { FlatHasOneDepth }
+{}
+
+/// A triangle beyond the eye shows nothing.
+pub fn triangles_beyond_the_eye_are_unseen()
+    ensures { BeyondShowsNothing }
 {}
 
 /// The order of a triangle's corners does not matter.
@@ -24,6 +35,16 @@ pub fn edges_are_covered()
     ensures { CoversEdges }
 {}
 
+/// A triangle's weights have the same sum at each place: what its corners' places span.
+pub fn weights_add_up()
+    ensures { WeightsAddUp }
+{}
+
+/// Two triangles on both sides of an edge leave no gap there, and overlap on its line alone.
+pub fn neighbours_fit()
+    ensures { NeighboursFit }
+{}
+
 /// A triangle changes only the pixels where it shows something.
 pub fn unseen_triangles_change_nothing()
     ensures { UnseenChangesNothing }
@@ -32,4 +53,9 @@ pub fn unseen_triangles_change_nothing()
 /// A pixel has the colour of the fragment with the greatest depth, the first of equal ones.
 pub fn pixels_show_the_nearest()
     ensures { ShowsFirstNearest }
+{}
+
+/// Each pixel of the picture stands in one of its tiles.
+pub fn tiles_make_the_picture()
+    ensures { TilesMakeThePicture }
 {}

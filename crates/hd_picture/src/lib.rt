@@ -20,8 +20,10 @@ mod windows;
 pub use drawable::is_drawable;
 pub use draws::{Draws, WorldTri};
 pub use laws::{
-    corners_have_no_order, depths_round_down, edges_are_covered, pixels_show_the_nearest,
-    triangles_stay_in_their_boxes, unseen_triangles_change_nothing,
+    corners_have_no_order, depths_round_down, depths_stay_between, edges_are_covered,
+    neighbours_fit, pixels_show_the_nearest, tiles_make_the_picture,
+    triangles_beyond_the_eye_are_unseen, triangles_stay_in_their_boxes,
+    unseen_triangles_change_nothing, weights_add_up,
 };
 pub use nearest::pixel;
 pub use tiles::{tile, tile_count};

@@ -110,16 +110,37 @@ fn covers_the_centres_on_its_edges(rt: HostRuntime) -> Result<(), Fail> {
     let shown = drawn(alloc, &[white], EYE, 4, 4)?;
     assert_eq!(rt; shown.as_slice(), b"w...\nww..\nwww.\nwwww\n".as_slice());
 
-    let wide = drawn(alloc, &[white], EYE, 48, 32)?;
-    let mut steps = Vec::new(alloc);
-    for y in 0..32_u32 {
-        for x in 0..48_u32 {
-            let inside = 14 <= y && y <= 17 && 22 <= x && x + 14 <= 22 + y;
-            steps.push(if inside { b'w' } else { b'.' })?;
+    for (width, height, left, top) in [(48, 32, 22, 14), (64, 64, 30, 30)] {
+        let shown = drawn(alloc, &[white], EYE, width, height)?;
+        let mut steps = Vec::new(alloc);
+        for y in 0..height {
+            for x in 0..width {
+                let inside = top <= y && y - top < 4 && left <= x && x - left <= y - top;
+                steps.push(if inside { b'w' } else { b'.' })?;
+            }
+            steps.push(b'\n')?;
         }
-        steps.push(b'\n')?;
+        assert_eq!(rt; shown.as_slice(), steps.as_slice());
     }
-    assert_eq!(rt; wide.as_slice(), steps.as_slice());
+    Ok(())
+}
+
+#[test]
+fn draws_a_square_without_a_gap(rt: HostRuntime) -> Result<(), Fail> {
+    let alloc = rt.alloc();
+    let (a, b) = (corner(-8, -8, 1), corner(8, -8, 1));
+    let (c, d) = (corner(8, 8, 1), corner(-8, 8, 1));
+    let halves = [facet(a, b, c, RED), facet(a, c, d, RED)];
+    let shown = drawn(alloc, &halves, EYE, 64, 64)?;
+    let mut square = Vec::new(alloc);
+    for y in 0..64_u32 {
+        for x in 0..64_u32 {
+            let inside = 24 <= x && x <= 39 && 24 <= y && y <= 39;
+            square.push(if inside { b'r' } else { b'.' })?;
+        }
+        square.push(b'\n')?;
+    }
+    assert_eq!(rt; shown.as_slice(), square.as_slice());
     Ok(())
 }
 
@@ -248,6 +269,34 @@ fn draws_a_tile_at_the_border(rt: HostRuntime) -> Result<(), Fail> {
     }
     assert_eq!(rt; letter(block[0]), b'w');
     assert!(rt; block[1..].iter().all(|color| letter(*color) == b'.'));
+    Ok(())
+}
+
+/// Whether a block is white at these places, and black elsewhere.
+fn is_white_at(block: &[Rgb; 256], places: &[usize]) -> bool {
+    for i in 0..256_usize {
+        let wanted = if places.contains(&i) { b'w' } else { b'.' };
+        if letter(block[i]) != wanted {
+            return false;
+        }
+    }
+    true
+}
+
+#[test]
+fn draws_the_tiles_of_a_frame(rt: HostRuntime) -> Result<(), Fail> {
+    let alloc = rt.alloc();
+    let white = right_triangle(2, 0, 0, 0, WHITE);
+    let draws = scene(alloc, &[white], EYE, 48, 32)?;
+    let mut block = [RED; 256];
+    assert!(rt; is_drawable(&draws));
+    assert!(rt; 4 < tile_count(draws.width, draws.height));
+    tile(&draws, 0, &mut block);
+    assert!(rt; is_white_at(&block, &[]));
+    tile(&draws, 1, &mut block);
+    assert!(rt; is_white_at(&block, &[230, 246, 247]));
+    tile(&draws, 4, &mut block);
+    assert!(rt; is_white_at(&block, &[6, 7, 8, 22, 23, 24, 25]));
     Ok(())
 }
 

@@ -1,0 +1,5 @@
+use Rattle.hd_picture.proofs.Neighbours.{neighbours_fit}
+use Rattle.hd_picture.proofs.laws.neighbours_fit.Goals as goal
+
+pub returns : goal.returns
+returns c = neighbours_fit

@@ -1,0 +1,5 @@
+use Rattle.hd_picture.proofs.Neighbours.{weights_add_up}
+use Rattle.hd_picture.proofs.laws.weights_add_up.Goals as goal
+
+pub returns : goal.returns
+returns c = weights_add_up
