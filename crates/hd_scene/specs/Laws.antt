@@ -1,13 +1,24 @@
 -- What follows from the definitions.
-use Rattle.std.specs.Prelude.{◌≡◌, ◌≢◌, ℕ, List, [], ◌++◌, None}
+use Rattle.std.specs.Prelude.{◌≡◌, ◌≢◌, ℕ, false, List, [], ◌++◌, Some, None}
 use Rattle.std.specs.FinMap.{get}
-use Rattle.hd_scene.specs.Scenes.{Scene, children_of, AreChildren, IsClosed}
-use Rattle.hd_scene.specs.Tells.{Tells}
+use Rattle.hd_scene.specs.Scenes.{Scene, kind_at, children_of, AreChildren, IsClosed}
+use Rattle.hd_scene.specs.Tells.{kind_after, is_whole, is_dirtied, Tells}
+use Rattle.hd_scene.specs.declared.prims.Entry.{Entry}
 use Rattle.hd_scene.specs.declared.notice.Notice.{Notice}
 
 -- the notices of a first step and behind them those of a second one tell both steps
 abbrev pub TellingComposes : Type 0
 TellingComposes = (a b c : Scene) (first second : List Notice) → Tells a b first → Tells b c second → Tells a c (first ++ second)
+
+-- a prim that is not told as a whole keeps its kind, or is in neither scene
+abbrev pub UntoldKeepTheirKinds : Type 0
+UntoldKeepTheirKinds = (old new : Scene) (notices : List Notice) (path : List (List ℕ)) → Tells old new notices → is_whole notices path ≡ false → kind_at new path ≡ kind_at old path
+
+-- so values need to be told only of prims that are in both
+abbrev pub ToldWhereBothAre : Type 0
+ToldWhereBothAre = (old new : Scene) (notices : List Notice) → ((p : List (List ℕ)) → kind_at new p ≡ kind_after notices p (kind_at new p) (kind_at old p))
+    → ((p at : List (List ℕ)) (e f : Entry) → get old p ≡ Some e → get new p ≡ Some f → is_whole notices p ≡ false → is_dirtied notices p at ≡ false → get f.values at ≡ get e.values at)
+    → Tells old new notices
 
 -- the children of a path are the names of the prims immediately below it, each once and in byte order
 abbrev pub ChildrenStandBelow : Type 0

@@ -1,10 +1,17 @@
 //! What holds of every scene and every list of notices.
 
-ghost use Rattle.hd_scene.specs.Laws.{TellingComposes, ChildrenStandBelow, ChildrenAreOneList, AbsentHasNoChildren};
+ghost use Rattle.hd_scene.specs.Laws.{TellingComposes, UntoldKeepTheirKinds, ToldWhereBothAre, ChildrenStandBelow, ChildrenAreOneList, AbsentHasNoChildren};
 
 /// Two steps that are told one after the other are told by both lists together.
 pub fn telling_composes()
     ensures { TellingComposes }
+{}
+
+/// A prim that is not told as a whole keeps its kind, or is in neither scene. So notices tell a step where they tell kinds,
+/// and values of the prims that are in both scenes.
+pub fn untold_prims_keep_their_kinds()
+    ensures kinds { UntoldKeepTheirKinds }
+    ensures both { ToldWhereBothAre }
 {}
 
 /// The children of a path are one list: the names of the prims immediately below it, each once and in byte order. A path
