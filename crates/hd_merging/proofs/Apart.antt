@@ -1,9 +1,10 @@
 -- Containers of which no value stands above one of another container.
-use Rattle.std.proofs.Common.{◌≡◌, ℕ, Bool, true, false, ◌&&◌, ◌||◌, if◌then◌else◌, suc, List, [], ◌∷◌, ◌++◌, Option, Some, None, is_some, IsTrue, refl, sym, ◌∙◌, ap, subst, arith}
+use Rattle.std.proofs.Common.{◌≡◌, ℕ, Bool, true, false, ◌&&◌, ◌||◌, if◌then◌else◌, suc, List, [], ◌∷◌, ◌++◌, Option, Some, None, is_some, IsTrue, option_and_then, refl, sym, ◌∙◌, ap, subst, arith}
 use Rattle.std.proofs.lemmas.List.{map-append}
 use Rattle.std.proofs.lemmas.List.Elements.{filter_map-append}
 use Rattle.std.specs.Prelude.{All}
 use Rattle.std.specs.List.{AllByRecursion, list_any, cons_option}
+use Rattle.std.specs.Option.{option_or}
 use Rattle.std.specs.Ordering.{eq_by_cmp, is_eq}
 use Rattle.std.specs.Cmp.{tied_itself}
 use Rattle.std.specs.FinMap.{get, keys, contains_key-keys, same_map}
@@ -13,13 +14,15 @@ use Rattle.hd_value.specs.Locators.{is_prefix, intersects}
 use Rattle.hd_value.specs.LocatorSets.{touches}
 use Rattle.hd_value.specs.Maps.{Map, overlaid_at}
 use Rattle.hd_value.specs.Shapes.{HasShape}
+use Rattle.hd_value.proofs.Overlaying.{untouched}
 use Rattle.hd_value.proofs.Prefixes.{same_itself}
 use Rattle.hd_path.specs.Paths.{path_cmp}
-use Rattle.hd_scene.specs.Scenes.{Scene, IsShapedBy}
+use Rattle.hd_scene.specs.Scenes.{Scene, value_at, IsShapedBy}
 use Rattle.hd_scene.specs.declared.prims.Entry.{Entry}
 use Rattle.hd_merging.specs.Merges.{overlaid, first_kind, merged_prim, merged_entry, prims_at, merged}
 use Rattle.hd_merging.specs.MergedScenes.{or_left, or_right, is_equal, get-overlaid, get-merged}
-use Rattle.hd_merging.specs.Laws.{IsUnnested}
+use Rattle.hd_merging.specs.Laws.{IsUnnested, strongest_value}
+use Rattle.hd_merging.proofs.Shaping.{value_at-merged}
 use Rattle.hd_merging.proofs.Together.{same_parts, kinds_of, values_of}
 
 true_is_not : true ≡ false → ⊥
@@ -145,6 +148,23 @@ module _ (may_stand : List (List ℕ) → Value → Bool) (unnested : IsUnnested
       let t = overlaid_touching ms shaped at near in
       touches_by (overlaid ms) t.0 at t.1 (get-overlaid ms t.0 ∙ t.2) t.3)
 
+  -- a map hides at a locator what weaker ones have only where it has a value there itself
+  overlaid-strongest : (m : Map) (ms : List Map) → HasShape may_stand m → AllByRecursion (HasShape may_stand) ms → (at : List (List ℕ)) → overlaid_at (m ∷ ms) at ≡ option_or (get m at) (overlaid_at ms at)
+  overlaid-strongest m ms shaped others at =
+      elim (touches (keys m) at) as (λ b. touches (keys m) at ≡ b → (if b then get m at else overlaid_at ms at) ≡ option_or (get m at) (overlaid_at ms at)) [
+        | false ↦ λ far. ap (λ (o : Option Value). option_or o (overlaid_at ms at)) (sym (untouched m at far))
+        | true ↦ λ near. elim (get m at) as (λ (o : Option Value). get m at ≡ o → o ≡ option_or o (overlaid_at ms at)) [
+          | Some v ↦ λ _. refl
+          | None ↦ λ hidden. elim (overlaid_at ms at) as (λ (o : Option Value). overlaid_at ms at ≡ o → None ≡ o) [
+            | None ↦ λ _. refl
+            | Some v ↦ λ later.
+                let t : Touching m at = touching m at near in
+                let same : t.key ≡ at = one_locator t.key at t.value v (shaped t.key t.value t.is) (overlaid_shape ms others at v later) t.meets in
+                absurd (none_is_not t.value (sym hidden ∙ ap (get m) (sym same) ∙ t.is))
+          ] refl
+        ] refl
+      ] refl
+
   overlaid_at-append : (ms ns : List Map) (at : List (List ℕ)) → overlaid_at (ms ++ ns) at ≡ (if list_any (λ m. touches (keys m) at) ms then overlaid_at ms at else overlaid_at ns at)
   overlaid_at-append [] ns at = refl
   overlaid_at-append (m ∷ ms) ns at =
@@ -180,6 +200,23 @@ module _ (may_stand : List (List ℕ) → Value → Bool) (unnested : IsUnnested
         | None ↦ λ _. rest
         | Some e ↦ λ there. (all 0 s (omega arith) path e there, rest)
       ] refl
+
+  -- what the prims at a path have together at a locator
+  strongest_at : (ss : List Scene) → All (IsShapedBy may_stand) ss → (path at : List (List ℕ)) → overlaid_at (values_of (prims_at ss path)) at ≡ strongest_value ss path at
+  strongest_at [] all path at = refl
+  strongest_at (s ∷ ss) all path at =
+      let further : All (IsShapedBy may_stand) ss = λ k d l. all (suc k) d (omega arith) in
+      let rest : overlaid_at (values_of (prims_at ss path)) at ≡ strongest_value ss path at = strongest_at ss further path at in
+      elim (get s path) as (λ (o : Option Entry). get s path ≡ o → overlaid_at (values_of (cons_option o (prims_at ss path))) at ≡ option_or (option_and_then (λ (e : Entry). get e.values at) o) (strongest_value ss path at)) [
+        | None ↦ λ _. rest
+        | Some e ↦ λ there.
+            overlaid-strongest e.values (values_of (prims_at ss path)) (all 0 s (omega arith) path e there) (prims_shaped ss further path) at
+            ∙ ap (option_or (get e.values at)) rest
+      ] refl
+
+-- each value comes from the strongest scene that has one at its locator, where no value stands above another one
+pub value_at-strongest : (may_stand : List (List ℕ) → Value → Bool) (ss : List Scene) → IsUnnested may_stand → All (IsShapedBy may_stand) ss → (path at : List (List ℕ)) → value_at (merged ss) path at ≡ strongest_value ss path at
+value_at-strongest may_stand ss unnested all path at = value_at-merged ss path at ∙ strongest_at may_stand unnested ss all path at
 
 -- the stronger scenes may be merged first where no value of theirs stands above another one
 pub merged-first : (may_stand : List (List ℕ) → Value → Bool) (ss ts : List Scene) → IsUnnested may_stand → All (IsShapedBy may_stand) ss → merged (merged ss ∷ ts) ≡ merged (ss ++ ts)

@@ -1,6 +1,7 @@
 -- What follows from the definitions.
-use Rattle.std.specs.Prelude.{◌≡◌, ℕ, Bool, List, [], ◌∷◌, ◌++◌, map, All, is_some, IsTrue}
+use Rattle.std.specs.Prelude.{◌≡◌, ℕ, Bool, List, [], ◌∷◌, ◌++◌, map, All, Option, None, is_some, IsTrue}
 use Rattle.std.specs.List.{list_any}
+use Rattle.std.specs.Option.{option_or}
 use Rattle.std.specs.FinMap.{get}
 use Rattle.hd_value.specs.declared.value.Value.{Value}
 use Rattle.hd_value.specs.Locators.{is_prefix}
@@ -31,6 +32,15 @@ MergesWeakerFirst = (stronger weaker : List Scene) → merged (stronger ++ merge
 -- no value of the shape may stand above another one
 abbrev pub IsUnnested : (List (List ℕ) → Value → Bool) → Type 0
 IsUnnested may_stand = (a b : List (List ℕ)) (v w : Value) → IsTrue (may_stand a v) → IsTrue (may_stand b w) → IsTrue (is_prefix a b) → a ≡ b
+
+-- the value that the strongest of the scenes with a value at a locator of a path has there
+abbrev pub strongest_value : List Scene → (path at : List (List ℕ)) → Option Value
+strongest_value [] path at = None
+strongest_value (s ∷ ss) path at = option_or (value_at s path at) (strongest_value ss path at)
+
+-- where the values are of such a shape, each comes from the strongest scene that has one at its locator
+abbrev pub MergesStrongest : Type 0
+MergesStrongest = (may_stand : List (List ℕ) → Value → Bool) (scenes : List Scene) → IsUnnested may_stand → All (IsShapedBy may_stand) scenes → (path at : List (List ℕ)) → value_at (merged scenes) path at ≡ strongest_value scenes path at
 
 -- the stronger ones may be merged first where their values are of such a shape. Else a value that is hidden in the merged
 -- stronger scenes no longer hides those of weaker scenes that it intersects

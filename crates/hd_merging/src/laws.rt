@@ -1,13 +1,15 @@
 //! What holds of every merged scene.
 
-ghost use Rattle.hd_merging.specs.Laws.{MergesPathByPath, MergesAllPaths, MergesValues, MergesOne, MergesWeakerFirst, MergesStrongerFirst, MergesClosed, MergesShaped};
+ghost use Rattle.hd_merging.specs.Laws.{MergesPathByPath, MergesAllPaths, MergesValues, MergesStrongest, MergesOne, MergesWeakerFirst, MergesStrongerFirst, MergesClosed, MergesShaped};
 
 /// A path is in the merged scene where one of the scenes has it, with the first kind that is not empty, and with the
-/// values of which no earlier one intersects the locator.
+/// values of which no earlier one intersects the locator. Where no value of the scenes stands above another one, each comes
+/// from the strongest scene that has one at its locator.
 pub fn merging_is_path_by_path()
     ensures prims { MergesPathByPath }
     ensures paths { MergesAllPaths }
     ensures values { MergesValues }
+    ensures strongest { MergesStrongest }
 {}
 
 /// One scene alone stays as it is. The weaker scenes may be merged first, and the stronger ones too where no value of

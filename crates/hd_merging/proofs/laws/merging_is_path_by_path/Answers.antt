@@ -1,4 +1,5 @@
 use Rattle.hd_merging.specs.MergedScenes.{get-merged, there-merged}
+use Rattle.hd_merging.proofs.Apart.{value_at-strongest}
 use Rattle.hd_merging.proofs.Shaping.{value_at-merged}
 use Rattle.hd_merging.proofs.laws.merging_is_path_by_path.Goals as goal
 
@@ -10,3 +11,6 @@ returns-clause-values c = value_at-merged
 
 pub returns-clause-paths : goal.returns-clause-paths
 returns-clause-paths c = there-merged
+
+pub returns-clause-strongest : goal.returns-clause-strongest
+returns-clause-strongest c = value_at-strongest
