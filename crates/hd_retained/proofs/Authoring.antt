@@ -126,7 +126,8 @@ fold_holds m front (p ∷ rest) holds once =
     subst (Holds (fold with_property (with_property m p) rest)) (append_assoc front (p ∷ []) rest)
     (fold_holds (with_property m p) (front ++ p ∷ []) rest (put_holds m front p holds (once_new front p rest once)) (subst IsOnce (sym (append_assoc front (p ∷ []) rest)) once))
 
-container_holds : (properties : Properties) → Holds (container_of properties) (listed properties)
+-- the values of properties by their names
+pub container_holds : (properties : Properties) → Holds (container_of properties) (listed properties)
 container_holds properties = fold_holds empty [] (listed properties) none_held (distinct_once (listed properties) (sorted_distinct (entries properties) (entries_sorted properties)))
 
 -- what answers as the properties author is what they author

@@ -1,4 +1,4 @@
--- A renamed layer is closed.
+-- A renamed layer is closed, and has at each path what was moved there or stayed.
 use Rattle.std.proofs.Common.{◌≡◌, ◌≢◌, ℕ, ◌≤◌, Bool, true, false, not, cond, ◌&&◌, ◌||◌, if◌then◌else◌, nat_lt, List, [], ◌∷◌, ◌++◌, length, drop, Option, Some, None, is_some, Result, Ok, Err, All, refl, sym, ◌∙◌, ap, subst, append_assoc}
 use Rattle.std.proofs.lemmas.Bool.{ltb-false}
 use Rattle.std.proofs.lemmas.List.Elements.{recursion_from_All, All-from_recursion}
@@ -9,7 +9,7 @@ use Rattle.hd_path.specs.Names.{IsName}
 use Rattle.hd_path.specs.Paths.{IsPath, path_cmp}
 use Rattle.hd_usda.specs.declared.limits.Which.TheVariants.{Depth}
 use Rattle.hd_value.specs.Locators.{is_same, is_prefix}
-use Rattle.hd_value.proofs.Prefixes.{same_text}
+use Rattle.hd_value.proofs.Prefixes.{same_text, same_itself}
 use Rattle.hd_schema.proofs.Lookups.{and_true, true_is_not}
 use Rattle.hd_scene.specs.Scenes.{IsClosed}
 use Rattle.hd_scene.proofs.Closing.{tied}
@@ -18,6 +18,7 @@ use Rattle.hd_retained.specs.declared.fault.EditFault.TheVariants.{NoPrim, PrimT
 use Rattle.hd_retained.specs.Layers.{Layer, scene_of}
 use Rattle.hd_retained.specs.Edits.{has_parent, moved, is_moved_too_deep, after_rename}
 use Rattle.hd_retained.specs.Indexed.{CanMove}
+use Rattle.hd_retained.specs.Laws.{IsMoved}
 use Rattle.hd_retained.proofs.Closed.{HasParents, has_parents, closed_by, parent_apart, parent_there, front_prefix}
 use Rattle.hd_retained.proofs.Moving.{IsFree, renamed, get-renamed, moved_in, moved_prefix, moved_back, prefix_split, drop_front}
 
@@ -219,3 +220,59 @@ rename_deep layer from to can deep = after_rename_is layer from to can ∙ ap (�
 pub rename_done : (layer new : Layer) (from to : Names) → CanMove layer from to → list_any (is_moved_too_deep from to) (keys layer) ≡ false → new ≡ renamed layer from to → after_rename layer from to ≡ Ok new
 rename_done layer new from to can shallow is =
     after_rename_is layer from to can ∙ ap (λ b. if b then Err (Limit Depth) else Ok (renamed layer from to)) shallow ∙ ap (λ (l : Layer). tests true false true false (Ok l)) (sym is)
+
+refused_is_not : (f : EditFault) (l : Layer) → ◌≡◌ {A = Result Layer EditFault} (Err f) (Ok l) → ⊥
+refused_is_not f l e = cc
+
+done_is : (l m : Layer) → ◌≡◌ {A = Result Layer EditFault} (Ok l) (Ok m) → l ≡ m
+done_is l m e = cc
+
+-- the tests that a renaming that is done has passed
+passed : (there apart parent free deep : Bool) (l new : Layer) → tests there apart parent free (if deep then Err (Limit Depth) else Ok l) ≡ Ok new → (there ≡ true) × (apart ≡ false) × (free ≡ false) × (l ≡ new)
+passed false apart parent free deep l new e = absurd (refused_is_not NoPrim new e)
+passed true true parent free deep l new e = absurd (refused_is_not UnderItself new e)
+passed true false false free deep l new e = absurd (refused_is_not NoPrim new e)
+passed true false true true deep l new e = absurd (refused_is_not PrimThere new e)
+passed true false true false true l new e = absurd (refused_is_not (Limit Depth) new e)
+passed true false true false false l new e = (refl, refl, refl, done_is l new e)
+
+-- of two paths that begin a third one, one begins the other
+one_within : (a b q : Names) → is_prefix a q ≡ true → is_prefix b q ≡ true → is_prefix a b ≡ false → is_prefix b a ≡ true
+one_within [] b q a_begins b_begins apart = true_is_not apart
+one_within (x ∷ a) [] q a_begins b_begins apart = refl
+one_within (x ∷ a) (y ∷ b) [] a_begins b_begins apart = true_is_not (sym a_begins)
+one_within (x ∷ a) (y ∷ b) (z ∷ q) a_begins b_begins apart =
+    let first = and_true (is_same x z) (is_prefix a q) a_begins in
+    let second = and_true (is_same y z) (is_prefix b q) b_begins in
+    let alike : x ≡ y = same_text x z first.0 ∙ sym (same_text y z second.0) in
+    let forth : is_same x y ≡ true = sym (ap (is_same x) alike) ∙ same_itself x in
+    let back : is_same y x ≡ true = ap (λ (t : List ℕ). is_same t x) (sym alike) ∙ same_itself x in
+    ap (λ t. t && is_prefix b a) back ∙ one_within a b q first.1 second.1 (sym (ap (λ t. t && is_prefix a b) forth) ∙ apart)
+
+-- nothing is at or below the second path, so that the first one is not below it
+away_from : (layer : Layer) (from to rest : Names) → IsFree layer to → contains_key layer from ≡ true → is_prefix from to ≡ false → is_prefix to (from ++ rest) ≡ false
+away_from layer from to rest free there apart =
+    elim (is_prefix to (from ++ rest)) as (λ b. is_prefix to (from ++ rest) ≡ b → b ≡ false) [
+      | true ↦ λ begins. true_is_not (sym there ∙ ap is_some (free from (one_within from to (from ++ rest) (front_prefix from rest) begins apart)))
+      | false ↦ λ _. refl
+    ] refl
+
+pub rename_moves : (old new : Layer) (from to : Names) → IsClosed (scene_of old) → to ≢ [] → after_rename old from to ≡ Ok new → IsMoved from to old new
+rename_moves old new from to closed to_root done =
+    let p = passed (contains_key old from) (is_prefix from to) (has_parent old to) (contains_key old to) (list_any (is_moved_too_deep from to) (keys old)) (renamed old from to) new done in
+    let free : IsFree old to = free_below old to closed to_root p.2 in
+    let at : (q : Names) → get new q ≡ cond (is_prefix to q) (get old (moved to from q)) (cond (is_prefix from q) None (get old q)) = λ q. ap (λ (l : Layer). get l q) (sym p.3) ∙ get-renamed old from to q free in
+    record {
+      moved = λ rest.
+          at (to ++ rest)
+          ∙ ap (λ b. cond b (get old (moved to from (to ++ rest))) (cond (is_prefix from (to ++ rest)) None (get old (to ++ rest)))) (front_prefix to rest)
+          ∙ ap (get old) (moved_in to from (to ++ rest) (front_prefix to rest) ∙ ap (λ (z : Names). from ++ z) (drop_front to rest));
+      gone = λ rest.
+          at (from ++ rest)
+          ∙ ap (λ b. cond b (get old (moved to from (from ++ rest))) (cond (is_prefix from (from ++ rest)) None (get old (from ++ rest)))) (away_from old from to rest free p.0 p.1)
+          ∙ ap (λ b. cond b None (get old (from ++ rest))) (front_prefix from rest);
+      same = λ q out away.
+          at q
+          ∙ ap (λ b. cond b (get old (moved to from q)) (cond (is_prefix from q) None (get old q))) away
+          ∙ ap (λ b. cond b None (get old q)) out;
+    }

@@ -1,9 +1,12 @@
 -- The layers that texts spell.
-use Rattle.std.proofs.Common.{◌≡◌, ℕ, ◌+◌, ◌-◌, ◌<◌, suc, Bool, true, false, ◌&&◌, ◌||◌, ◌==◌, cond, nat_le, List, [], ◌∷◌, ◌++◌, length, get_or, map, take, drop, Some, None, is_some, refl, sym, ◌∙◌, ap, take-append-drop, drop-cons}
+use Rattle.std.proofs.Common.{◌≡◌, ℕ, ◌+◌, ◌-◌, ◌<◌, suc, Bool, true, false, ◌&&◌, ◌||◌, ◌==◌, cond, nat_le, List, [], ◌∷◌, ◌++◌, length, get_or, map, take, drop, Option, Some, None, is_some, option_and_then, Contains, slice_index_or, zero, refl, sym, ◌∙◌, ap, arith, take-append-drop, drop-cons}
 use Rattle.std.proofs.lemmas.Bool.Decides.{Decides-eqb}
+use Rattle.std.proofs.lemmas.Cmp.{eq_by_cmp_equiv}
 use Rattle.std.proofs.lemmas.List.{take_more, map-append}
+use Rattle.std.proofs.lemmas.Map.Views.{Contains-from_any}
 use Rattle.std.specs.List.{list_all, list_any}
 use Rattle.std.specs.Map.{keys_of, lookup}
+use Rattle.std.specs.Option.{option_map}
 use Rattle.std.specs.Ordering.{eq_by_cmp, is_eq, is_lt, ordering_reverse}
 use Rattle.std.specs.declared.cmp.Ordering.{Ordering}
 use Rattle.std.specs.declared.cmp.Ordering.TheVariants.{Less, Equal, Greater}
@@ -15,13 +18,18 @@ use Rattle.hd_usda.specs.declared.spec.LayerSpec.{LayerSpec}
 use Rattle.hd_usda.specs.WellFormed.{is_layer, is_prim_spec, is_path, is_kind, is_property, are_distinct, ascend, has_parent}
 use Rattle.hd_schema.proofs.Lookups.{and_true, true_is_not}
 use Rattle.hd_path.specs.Paths.{path_cmp}
-use Rattle.hd_scene.specs.Scenes.{IsClosed}
+use Rattle.hd_schema.specs.Authored.{authored_at}
+use Rattle.hd_scene.specs.Scenes.{kind_at, value_at, IsClosed}
+use Rattle.hd_scene.specs.declared.prims.Entry.{Entry}
 use Rattle.hd_scene.proofs.Children.{path_cmp_total, path_cmp_exact}
 use Rattle.hd_scene.proofs.Closing.{tied}
 use Rattle.hd_retained.specs.declared.held.Place.{Place}
 use Rattle.hd_retained.specs.declared.held.Held.{Held}
-use Rattle.hd_retained.specs.Layers.{LayerPrim, Layer, spelled_prim, prim_at_path, layer_of, scene_of}
+use Rattle.hd_retained.specs.Layers.{LayerPrim, Layer, spelled_prim, prim_at_path, entry_of, kind_in, listed, layer_of, scene_of}
+use Rattle.hd_retained.specs.Laws.{IsAsSpelled}
 use Rattle.hd_retained.specs.Indexed.{place_cmp, IsSound}
+use Rattle.hd_retained.proofs.Authoring.{container_holds, container_authors}
+use Rattle.hd_retained.proofs.Kept.{get-scene}
 use Rattle.hd_retained.proofs.Listing.{names}
 use Rattle.hd_retained.proofs.PathNames.{formed_path, formed_below_root}
 use Rattle.hd_retained.proofs.Closed.{closed_by, parent_is}
@@ -154,3 +162,47 @@ empty_sound m none = record {
   where
     nothing : (h : Held) → Some h ≡ None → ⊥
     nothing h e = cc
+
+-- a fact of each path is one of the path of a prim of the list
+all_of_prims : (fact : Names → Bool) (ps : List PrimSpec) (p : PrimSpec) (k : ℕ) → list_all fact (paths_of ps) ≡ true → k < length ps → slice_index_or ps k p ≡ p → fact p.path ≡ true
+all_of_prims fact [] p k all below is = absurd (omega arith)
+all_of_prims fact (x ∷ ps) p zero all below is = ap (λ (q : PrimSpec). fact q.path) (sym is) ∙ (and_true (fact x.path) (list_all fact (paths_of ps)) all).0
+all_of_prims fact (x ∷ ps) p (suc k) all below is = all_of_prims fact ps p k (and_true (fact x.path) (list_all fact (paths_of ps)) all).1 (omega arith) is
+
+-- a prim of ascending ones is found at its path
+found_spelled : (ps : List PrimSpec) (p : PrimSpec) (k : ℕ) → ascend (paths_of ps) ≡ true → k < length ps → slice_index_or ps k p ≡ p → find path_cmp p.path (map prim_at_path ps) ≡ Some (spelled_prim p)
+found_spelled [] p k ascends below is = absurd (omega arith)
+found_spelled (x ∷ ps) p zero ascends below is =
+    ap (λ (q : PrimSpec). find path_cmp p.path (map prim_at_path (q ∷ ps))) is
+    ∙ ap (λ b. cond b (Some (spelled_prim p)) (find path_cmp p.path (map prim_at_path ps))) ((eq_by_cmp_equiv path_cmp_total).refl p.path)
+found_spelled (x ∷ ps) p (suc k) ascends below is =
+    let both = and_true (list_all (λ next. is_lt (path_cmp x.path next)) (paths_of ps)) (ascend (paths_of ps)) ascends in
+    ap (λ b. cond b (Some (spelled_prim x)) (find path_cmp p.path (map prim_at_path ps))) (behind x.path p.path (all_of_prims (λ next. is_lt (path_cmp x.path next)) ps p k both.0 (omega arith) is))
+    ∙ found_spelled ps p k both.1 (omega arith) is
+
+-- what the scene of a layer has at a path
+pub scene_kinds : (layer : Layer) (path : Names) → kind_at (scene_of layer) path ≡ kind_in layer path
+scene_kinds layer path = ap (option_map (λ (e : Entry). e.kind)) (get-scene layer path) ∙ inside (get layer path)
+  where
+    inside : (o : Option LayerPrim) → option_map (λ (e : Entry). e.kind) (option_map entry_of o) ≡ option_map (λ (p : LayerPrim). p.kind) o
+    inside None = refl
+    inside (Some p) = refl
+
+pub scene_values : (layer : Layer) (path at : Names) → value_at (scene_of layer) path at ≡ option_and_then (λ (p : LayerPrim). authored_at (listed p.properties) at) (get layer path)
+scene_values layer path at = ap (option_and_then (λ (e : Entry). get e.values at)) (get-scene layer path) ∙ inside (get layer path)
+  where
+    inside : (o : Option LayerPrim) → option_and_then (λ (e : Entry). get e.values at) (option_map entry_of o) ≡ option_and_then (λ (p : LayerPrim). authored_at (listed p.properties) at) o
+    inside None = refl
+    inside (Some p) = container_holds p.properties at
+
+-- a text spells its prims and no other
+pub layer_as_spelled : (l : LayerSpec) → is_layer l ≡ true → IsAsSpelled l (layer_of l)
+layer_as_spelled l h =
+    let there : (p : PrimSpec) → Contains l.prims p → get (layer_of l) p.path ≡ Some (spelled_prim p) = λ p listed. get-from_entries path_cmp_total (map prim_at_path l.prims) p.path ∙ found_spelled l.prims p listed.0 (parts l h).ascends listed.1 listed.2 in
+    record {
+      kinds = λ p listed. ap (option_map (λ (q : LayerPrim). q.kind)) (there p listed);
+      values = λ p at listed.
+          ap (option_and_then (λ (e : Entry). get e.values at)) (get-scene (layer_of l) p.path ∙ ap (option_map entry_of) (there p listed))
+          ∙ container_authors p.properties at;
+      paths = λ path is. Contains-from_any tied path (paths_of l.prims) (sym (spelled_there l.prims path) ∙ is);
+    }

@@ -1,3 +1,4 @@
 pub mod Layers
 pub mod Edits
 pub mod Indexed
+pub mod Laws

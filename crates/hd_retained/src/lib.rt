@@ -4,12 +4,14 @@
 mod edits;
 mod fault;
 mod held;
+mod laws;
 mod layer;
 mod prims;
 mod renaming;
 mod retained;
 
 pub use fault::EditFault;
+pub use laws::{renaming_moves_all_below, scenes_have_what_is_authored};
 pub use layer::Layer;
 pub use retained::Retained;
 
