@@ -1,31 +1,15 @@
 -- The path of a prim below another.
-use Rattle.std.proofs.Common.{◌≡◌, ℕ, ◌<◌, ◌≤◌, List, [], ◌∷◌, ◌++◌, length, ◌||◌, ◌==◌, cond, nat_lt, Ok, Err, ◌⊎◌, inl, inr, IsAscii, refl, ap, ◌∙◌, arith}
+use Rattle.std.proofs.Common.{◌≡◌, ℕ, ◌<◌, ◌≤◌, List, [], ◌∷◌, ◌++◌, length, ◌||◌, ◌==◌, cond, nat_lt, Ok, Err, ◌⊎◌, inl, inr, IsAscii, ap, ◌∙◌, arith}
 use Rattle.std.proofs.lemmas.Bool.Decides.{nat_tests}
-use Rattle.std.specs.List.{list_all}
 use Rattle.hd_path.specs.declared.fault.PathFault.{PathFault}
 use Rattle.hd_path.specs.declared.fault.PathFault.TheVariants.{NoMemory}
-use Rattle.hd_path.specs.Names as path
 use Rattle.hd_path.specs.Names.{IsName, identifier_len}
 use Rattle.hd_path.specs.Changes.{child_of}
 use Rattle.hd_path.proofs.Bytes.{identifier_len-identifier, name_not_empty}
-use Rattle.hd_usda.specs.Lexing.{is_letter, is_word}
-use Rattle.hd_usda.specs.Names.{is_identifier}
 use Rattle.hd_usda.proofs.Ascii.{identifier_ascii}
 
--- the letters of names of prims are those of paths
-same_letters : (b : ℕ) → is_letter b ≡ path.is_letter b
-same_letters b = grind (arith, nat_tests)
-
-same_words : (bs : List ℕ) → list_all is_word bs ≡ list_all path.is_word bs
-same_words [] = refl
-same_words (b ∷ bs) = rw (same_letters b, same_words bs) refl
-
-pub same_identifiers : (bs : List ℕ) → is_identifier bs ≡ path.is_identifier bs
-same_identifiers [] = refl
-same_identifiers (b ∷ bs) = rw (same_letters b, same_words bs) refl
-
 pub prim_name_ascii : (name : List ℕ) → IsName name → IsAscii name
-prim_name_ascii name h = identifier_ascii name (same_identifiers name ∙ h.identifier)
+prim_name_ascii name h = identifier_ascii name h.identifier
 
 -- the choice of a child, where each test passes
 last : {T : Type 0} (len size depth : ℕ) (a b c d : T) → len ≡ size → 0 < size → size ≤ 64 → depth < 32

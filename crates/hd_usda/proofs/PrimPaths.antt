@@ -7,12 +7,11 @@ use Rattle.std.proofs.lemmas.List.Splits.{length-slice_split, slice_split-cons_y
 use Rattle.std.specs.List.{list_all, list_any}
 use Rattle.hd_path.specs.declared.fault.PathFault.{PathFault}
 use Rattle.hd_path.specs.declared.fault.PathFault.TheVariants.{NoMemory}
-use Rattle.hd_path.specs.Names.{IsName}
+use Rattle.hd_path.specs.Names.{is_identifier, IsName}
 use Rattle.hd_path.specs.Paths.{IsPath, path_text, slashed}
 use Rattle.hd_path.proofs.Slashes.{slashed-pieces, is_slash_is}
-use Rattle.hd_usda.specs.Names.{is_identifier}
-use Rattle.hd_usda.specs.Targets.{is_slash, between_slashes, are_identifiers, is_prim_path, is_long, has_long, names_of}
-use Rattle.hd_usda.proofs.ChildPaths.{same_identifiers}
+use Rattle.hd_path.specs.Parsing.{is_slash, pieces}
+use Rattle.hd_usda.specs.Targets.{are_identifiers, is_prim_path, is_long, has_long, names_of}
 
 within : (n bound : ℕ) → nat_lt bound n ≡ false → n ≤ bound
 within n bound h = grind (arith, nat_tests)
@@ -22,25 +21,25 @@ are_names [] h short = All-nil IsName
 are_names (part ∷ parts) h short =
     let identifiers = and_parts (is_identifier part) (list_all is_identifier parts) h in
     let none = or_parts (is_long part) (list_any is_long parts) short in
-    All-cons IsName part parts (record { identifier = sym (same_identifiers part) ∙ identifiers.0; short = within (length part) 64 none.0 }) (are_names parts identifiers.1 none.1)
+    All-cons IsName part parts (record { identifier = identifiers.0; short = within (length part) 64 none.0 }) (are_names parts identifiers.1 none.1)
 
 pub spells_path : (text : List ℕ) → is_prim_path text ≡ true → nat_lt 32 (count_by is_slash text) ≡ false → has_long text ≡ false → IsPath (names_of text)
 spells_path [] prim shallow short = absurd (cc)
 spells_path (b ∷ bs) prim shallow short =
     let parts = and_parts (is_slash b) (are_identifiers bs) prim in
-    let cut : between_slashes (b ∷ bs) ≡ [] ∷ between_slashes bs = slice_split-cons_yes is_slash b bs parts.0 in
-    let long : list_any is_long (between_slashes bs) ≡ false = ap (list_any is_long) (sym cut) ∙ short in
+    let cut : pieces (b ∷ bs) ≡ [] ∷ pieces bs = slice_split-cons_yes is_slash b bs parts.0 in
+    let long : list_any is_long (pieces bs) ≡ false = ap (list_any is_long) (sym cut) ∙ short in
     let size = length-slice_split is_slash (b ∷ bs) in
     let more = length-slice_split is_slash bs in
     let one = ap length cut in
     let few = within (count_by is_slash (b ∷ bs)) 32 shallow in
-    record { shallow = omega (arith, size, one, few); named = are_names (between_slashes bs) parts.1 long }
+    record { shallow = omega (arith, size, one, few); named = are_names (pieces bs) parts.1 long }
 
 pub spelled_text : (text : List ℕ) → is_prim_path text ≡ true → path_text (names_of text) ≡ text
 spelled_text [] prim = absurd (cc)
 spelled_text (b ∷ bs) prim =
     let parts = and_parts (is_slash b) (are_identifiers bs) prim in
-    some (between_slashes bs) (omega (arith, length-slice_split is_slash bs)) ∙ slashed-pieces bs ∙ ap (λ c. c ∷ bs) (sym (is_slash_is b parts.0))
+    some (pieces bs) (omega (arith, length-slice_split is_slash bs)) ∙ slashed-pieces bs ∙ ap (λ c. c ∷ bs) (sym (is_slash_is b parts.0))
   where
     some : (ps : List (List ℕ)) → 0 < length ps → path_text ps ≡ slashed ps
     some [] h = absurd (omega arith)

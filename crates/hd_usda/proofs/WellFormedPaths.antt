@@ -3,15 +3,16 @@ use Rattle.std.proofs.Common.{◌≡◌, ℕ, suc, ◌<◌, ◌≤◌, inl, inr,
 use Rattle.std.proofs.lemmas.Bool.{and_from, and_parts, or_parts, not-false, ltb-false, le-leb, lt-ltb}
 use Rattle.std.proofs.lemmas.List.Splits.{length-slice_split, slice_split-cons_yes}
 use Rattle.std.specs.List.{list_all, list_any}
+use Rattle.hd_path.specs.Names.{is_identifier}
+use Rattle.hd_path.specs.Parsing.{is_slash, pieces}
 use Rattle.hd_usda.specs.declared.lexer.Kind.TheVariants.{PathText}
 use Rattle.hd_usda.specs.declared.fault.LayerWhy.TheVariants.{Syntax, LeftOut, Limit}
 use Rattle.hd_usda.specs.declared.limits.Which.TheVariants.{Depth, Name}
 use Rattle.hd_usda.specs.Limits.{limit_of}
-use Rattle.hd_usda.specs.Names.{is_identifier}
 use Rattle.hd_usda.specs.Lexing.{Tokens}
 use Rattle.hd_usda.specs.Cursors.{is, is_word, rest, text, line_of, fault_in, fault_at, take}
 use Rattle.hd_usda.specs.Elements.{list_of}
-use Rattle.hd_usda.specs.Targets.{is_slash, between_slashes, are_identifiers, is_prim_path, is_long, has_long, names_of, path_in, target, one_target, in_list, targets}
+use Rattle.hd_usda.specs.Targets.{are_identifiers, is_prim_path, is_long, has_long, names_of, path_in, target, one_target, in_list, targets}
 use Rattle.hd_usda.specs.WellFormed.{is_prim_name, is_path, is_list}
 use Rattle.hd_usda.proofs.Answering.{answered, ok_same, past_fault, past_test, either}
 use Rattle.hd_usda.proofs.WellFormedLists.{Checks, list_is, are_list}
@@ -36,10 +37,10 @@ spelled : (text : List ℕ) → is_prim_path text ≡ true → has_long text ≡
 spelled [] prim short = absurd (cc)
 spelled (b ∷ bs) prim short =
     let both = and_parts (is_slash b) (are_identifiers bs) prim in
-    let cut : between_slashes (b ∷ bs) ≡ [] ∷ between_slashes bs = slice_split-cons_yes is_slash b bs both.0 in
+    let cut : pieces (b ∷ bs) ≡ [] ∷ pieces bs = slice_split-cons_yes is_slash b bs both.0 in
     let size = length-slice_split is_slash bs in
     let whole = length-slice_split is_slash (b ∷ bs) in
-    let longer : length (between_slashes (b ∷ bs)) ≡ suc (length (between_slashes bs)) = ap length cut in
+    let longer : length (pieces (b ∷ bs)) ≡ suc (length (pieces bs)) = ap length cut in
     record { short = ap (list_any is_long) (sym cut) ∙ short; identifiers = both.1; as_many = omega (arith, whole, longer); some = omega (arith, size) }
 
 path_is : (line : ℕ) (text : List ℕ) (names : List (List ℕ)) → path_in line text ≡ Ok names → is_path names ≡ true

@@ -1,21 +1,20 @@
 -- The bytes of a text, cut into the list of its tokens, each with its line.
-use Rattle.std.specs.Prelude.{ℕ, zero, suc, ◌+◌, ◌-◌, ◌∷◌, [], List, Bool, true, false, ◌||◌, ◌&&◌, not, nat_eq, nat_lt, nat_le, ◌==◌, if◌then◌else◌, Option, Some, None, take, drop, fold, codes}
+use Rattle.std.specs.Prelude.{ℕ, zero, suc, ◌+◌, ◌-◌, ◌∷◌, [], List, Bool, true, false, ◌||◌, ◌&&◌, not, nat_eq, nat_lt, ◌==◌, if◌then◌else◌, Option, Some, None, take, drop, fold, codes}
 use Rattle.std.specs.List.{prefix_len, starts_with}
 use Rattle.std.specs.Str.{bytes_eq}
+use Rattle.hd_path.specs.Names as names
 use Rattle.hd_usda.specs.declared.lexer.Kind.{Kind}
 use Rattle.hd_usda.specs.declared.lexer.Kind.TheVariants.{Word, Number, Text, Asset, PathText, OpenRound, CloseRound, OpenSquare, CloseSquare, OpenCurly, CloseCurly, Equals, Comma, Colon, Semicolon, Point, Bad}
 
--- an ASCII letter or an underscore
+-- letters, digits, and what may follow the first letter of a word, as in names
 abbrev pub is_letter : ℕ → Bool
-is_letter b = (b == 95) || (nat_le 97 b && nat_le b 122) || (nat_le 65 b && nat_le b 90)
+is_letter b = names.is_letter b
 
--- an ASCII digit
 abbrev pub is_digit : ℕ → Bool
-is_digit b = nat_le 48 b && nat_le b 57
+is_digit b = names.is_digit b
 
--- what may follow the first letter of a word
 abbrev pub is_word : ℕ → Bool
-is_word b = is_letter b || is_digit b
+is_word b = names.is_word b
 
 -- a plus or a minus
 abbrev pub is_sign : ℕ → Bool

@@ -1,13 +1,8 @@
--- Names of prims, of types and of properties.
-use Rattle.std.specs.Prelude.{ℕ, List, [], ◌∷◌, Bool, false, ◌&&◌, ◌||◌, not, ◌==◌, codes}
+-- Words, and the names of properties: words that colons join.
+use Rattle.std.specs.Prelude.{ℕ, List, Bool, ◌&&◌, ◌||◌, not, ◌==◌, codes}
 use Rattle.std.specs.Str.{bytes_eq}
 use Rattle.std.specs.List.{list_all, slice_split}
-use Rattle.hd_usda.specs.Lexing.{is_letter, is_word}
-
--- an ASCII identifier
-abbrev pub is_identifier : List ℕ → Bool
-is_identifier [] = false
-is_identifier (b ∷ bs) = is_letter b && list_all is_word bs
+use Rattle.hd_path.specs.Names.{is_identifier}
 
 -- `inf` and `nan` are numbers and no words
 abbrev pub is_no_word : List ℕ → Bool

@@ -3,6 +3,7 @@ use Rattle.std.specs.Prelude.{ℕ, zero, suc, ◌+◌, List, [], ◌∷◌, ◌+
 use Rattle.std.specs.FinSet.{empty}
 use Rattle.std.specs.BTreeMap.{insert_entry}
 use Rattle.hd_path.specs.Paths.{path_cmp}
+use Rattle.hd_path.specs.Names.{is_identifier}
 use Rattle.hd_usda.specs.declared.lexer.Kind.TheVariants.{Word, Text, OpenCurly, CloseCurly, Semicolon, End}
 use Rattle.hd_usda.specs.declared.fault.LayerWhy.TheVariants.{Syntax, LeftOut, Limit}
 use Rattle.hd_usda.specs.declared.limits.Which.TheVariants.{Prims, Depth, Name}
@@ -13,7 +14,6 @@ use Rattle.hd_usda.specs.Lexing.{Tokens}
 use Rattle.hd_usda.specs.Cursors.{◌>>=◌, Fault, Form, is, is_word, rest, text, line_of, fault_in, fault_at, take, past_one}
 use Rattle.hd_usda.specs.Loops.{all}
 use Rattle.hd_usda.specs.Metadata.{metadata}
-use Rattle.hd_usda.specs.Names.{is_identifier}
 use Rattle.hd_usda.specs.Items.{Seen, Body, new_name, property}
 
 -- a path is the list of its names

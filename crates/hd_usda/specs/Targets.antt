@@ -1,28 +1,22 @@
 -- The paths of used relationships.
 use Rattle.std.specs.Prelude.{ℕ, List, [], ◌∷◌, length, Bool, false, ◌&&◌, not, ◌==◌, nat_lt, drop, count_by, Result, Ok, Err, if◌then◌else◌, codes}
-use Rattle.std.specs.List.{list_all, list_any, slice_split}
+use Rattle.std.specs.List.{list_all, list_any}
 use Rattle.hd_usda.specs.declared.lexer.Kind.TheVariants.{PathText}
 use Rattle.hd_usda.specs.declared.fault.LayerWhy.{LayerWhy}
 use Rattle.hd_usda.specs.declared.fault.LayerWhy.TheVariants.{LeftOut, Limit}
 use Rattle.hd_usda.specs.declared.limits.Which.TheVariants.{Depth, Name, Elements}
 use Rattle.hd_usda.specs.Limits.{limit_of}
-use Rattle.hd_usda.specs.Names.{is_identifier}
+use Rattle.hd_path.specs.Names.{is_identifier}
+use Rattle.hd_path.specs.Parsing.{is_slash, pieces}
 use Rattle.hd_usda.specs.Cursors.{◌>>=◌, Fault, Form, is, is_word, rest, text, line_of, fault_in, take}
 use Rattle.hd_usda.specs.Elements.{Reads, list_of}
-
-abbrev pub is_slash : ℕ → Bool
-is_slash b = b == 47
 
 abbrev pub no_slash : ℕ → Bool
 no_slash b = not (is_slash b)
 
--- what stands between slashes
-abbrev pub between_slashes : List ℕ → List (List ℕ)
-between_slashes text = slice_split is_slash text
-
 -- identifiers between slashes
 abbrev pub are_identifiers : List ℕ → Bool
-are_identifiers text = list_all is_identifier (between_slashes text)
+are_identifiers text = list_all is_identifier (pieces text)
 
 -- a slash, and identifiers between slashes
 abbrev pub is_prim_path : List ℕ → Bool
@@ -34,11 +28,11 @@ is_long name = nat_lt (limit_of Name) (length name)
 
 -- one of what stands between slashes is longer than a name may be
 abbrev pub has_long : List ℕ → Bool
-has_long text = list_any is_long (between_slashes text)
+has_long text = list_any is_long (pieces text)
 
 -- the names that stand behind the first slash
 abbrev pub names_of : List ℕ → List (List ℕ)
-names_of text = between_slashes (drop 1 text)
+names_of text = pieces (drop 1 text)
 
 -- the path that a text in this line spells
 abbrev pub path_in : ℕ → List ℕ → Result (List (List ℕ)) Fault

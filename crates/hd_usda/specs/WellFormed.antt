@@ -5,6 +5,7 @@ use Rattle.std.specs.Str.{bytes_eq}
 use Rattle.std.specs.Ordering.{is_eq, is_lt}
 use Rattle.hd_num.specs.declared.vector.Vec3.{Vec3}
 use Rattle.hd_num.specs.Matrices.{Rows}
+use Rattle.hd_path.specs.Names.{is_identifier}
 use Rattle.hd_usda.specs.declared.limits.Which.TheVariants.{Literal, Elements, Depth, Name, Prims}
 use Rattle.hd_usda.specs.declared.properties.Role.{Role}
 use Rattle.hd_usda.specs.declared.properties.Role.TheVariants as role
@@ -15,7 +16,6 @@ use Rattle.hd_usda.specs.declared.spec.PrimSpec.{PrimSpec}
 use Rattle.hd_usda.specs.declared.spec.LayerSpec.{LayerSpec}
 use Rattle.hd_usda.specs.Limits.{limit_of}
 use Rattle.hd_usda.specs.Metadata.{is_any}
-use Rattle.hd_usda.specs.Names.{is_identifier}
 use Rattle.hd_usda.specs.Properties.{role_of, is_target_name, is_op_entry, visibilities, purposes}
 use Rattle.hd_path.specs.Paths.{path_cmp}
 use Rattle.hd_usda.specs.Prims.{Path}

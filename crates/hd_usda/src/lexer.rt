@@ -53,7 +53,7 @@ struct Quoting<'a> {
 pub fn is_letter(b: u8) -> bool
     ensures { result ≡ is_letter b }
 {
-    b == b'_' || (b >= b'a' && b <= b'z') || (b >= b'A' && b <= b'Z')
+    (b >= b'A' && b <= b'Z') || (b >= b'a' && b <= b'z') || b == b'_'
 }
 
 pub fn is_digit(b: u8) -> bool

@@ -2,9 +2,10 @@
 
 ghost use Rattle.std.specs.Prelude.{◌≡◌, ◌≤◌, ◌<◌, true, false, nat_lt, length, count_by, IfOk, IfErr, OnOk};
 ghost use Rattle.std.specs.List.{prefix_len};
+ghost use Rattle.hd_path.specs.Parsing.{is_slash};
 ghost use Rattle.hd_usda.specs.declared.fault.LayerFault.TheVariants.{NoMemory};
 ghost use Rattle.hd_usda.specs.Cursors.{count, Gives};
-ghost use Rattle.hd_usda.specs.Targets.{is_slash, no_slash, are_identifiers, is_prim_path, is_long, has_long, names_of, path_in, beyond_list, target, one_target, in_list, targets};
+ghost use Rattle.hd_usda.specs.Targets.{no_slash, are_identifiers, is_prim_path, is_long, has_long, names_of, path_in, beyond_list, target, one_target, in_list, targets};
 
 use crate::cursor::Cursor;
 use crate::elements::{Element, list_of};

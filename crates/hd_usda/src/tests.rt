@@ -1,5 +1,6 @@
 //! Tests by tables: texts, and what the profile says of them.
 
+mod copies;
 mod cuts;
 mod grammar;
 mod layers;

@@ -2,8 +2,9 @@
 
 ghost use Rattle.std.specs.Prelude.{◌≡◌, ◌≤◌, length};
 ghost use Rattle.std.specs.List.{list_all, prefix_len};
+ghost use Rattle.hd_path.specs.Names.{is_identifier};
 ghost use Rattle.hd_usda.specs.Lexing.{is_word};
-ghost use Rattle.hd_usda.specs.Names.{is_identifier, is_no_word, is_plain_word, is_part, is_joined};
+ghost use Rattle.hd_usda.specs.Names.{is_no_word, is_plain_word, is_part, is_joined};
 
 use crate::lexer::{is_letter, is_word};
 

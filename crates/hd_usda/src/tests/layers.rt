@@ -222,7 +222,7 @@ fn told_at(alloc: Global, layer: &LayerSpec, i: usize) -> Result<String, AllocEr
 }
 
 /// The paths of prims and their types, where `-` is none.
-fn told_prims(alloc: Global, layer: &LayerSpec) -> Result<String, AllocError> {
+pub fn told_prims(alloc: Global, layer: &LayerSpec) -> Result<String, AllocError> {
     let mut told = String::new(alloc);
     for prim in layer.prims.items() {
         let kind = if prim.kind.text().is_empty() {
