@@ -1,12 +1,12 @@
 -- Each form gives a value, or a fault of the text.
-use Rattle.std.proofs.Common.{◌≢◌, ℕ, nat_lt, length, ◌==◌, List, [], ◌∷◌, Bool, true, false, Option, Some, Result, Ok, Err, if◌then◌else◌, codes, subst}
+use Rattle.std.proofs.Common.{◌≢◌, ℕ, nat_lt, ◌==◌, List, [], ◌∷◌, Bool, true, false, Option, Some, Result, Ok, Err, if◌then◌else◌, codes, subst}
 use Rattle.std.specs.Str.{bytes_eq, is_utf8}
 use Rattle.hd_path.specs.declared.fault.PathFault.{PathFault}
 use Rattle.hd_path.specs.declared.fault.PathFault.TheVariants as path
-use Rattle.hd_path.specs.Parsing.{parsed}
+use Rattle.hd_path.specs.Parsing.{name_at, parsed}
 use Rattle.hd_usda.specs.declared.fault.LayerWhy.{LayerWhy}
 use Rattle.hd_usda.specs.declared.fault.LayerWhy.TheVariants as why
-use Rattle.hd_usda.specs.declared.limits.Which.TheVariants.{Name, Frame}
+use Rattle.hd_usda.specs.declared.limits.Which.TheVariants.{Frame}
 use Rattle.hd_usda.specs.declared.spec.Property.{Property}
 use Rattle.hd_usda.specs.Cursors.{Fault}
 use Rattle.hd_usda.specs.Limits.{limit_of}
@@ -18,7 +18,7 @@ use Rattle.hd_script.specs.declared.fault.LineFault.{LineFault}
 use Rattle.hd_script.specs.declared.fault.LineFault.TheVariants.{Syntax, LeftOut, Fraction, Limit, NoMemory}
 use Rattle.hd_script.specs.Faults.{◌>>=◌}
 use Rattle.hd_script.specs.Lines.{Word, words, without_return, is_nothing}
-use Rattle.hd_script.specs.Fields.{is_number, number, within_frame, size, is_file_name, file_name, identifier_len, identifier, prim_type, path_fault, below_root, prim_path, property_name, property_fault, on_line, property}
+use Rattle.hd_script.specs.Fields.{is_number, number, within_frame, size, is_file_name, file_name, path_fault, named, identifier, prim_type, below_root, prim_path, property_name, property_fault, on_line, property}
 use Rattle.hd_script.specs.Commands.{field, ends, alone, layer, define, set, clear, remove, rename, dump, last_path, start, tiles, named_command, command_in, valid_text, reads_text, reads_line}
 
 -- a fault of the text
@@ -57,18 +57,19 @@ file_name_told : (text : List ℕ) → IsTold (file_name text)
 unfolding file_name
 file_name_told text = either (is_file_name text) _ _ tt tt
 
-identifier_told : (text : List ℕ) → IsTold (identifier text)
-identifier_told text = either (identifier_len text == 0) _ _ tt (either (nat_lt (limit_of Name) (identifier_len text)) _ _ tt (either (nat_lt (identifier_len text) (length text)) _ _ tt tt))
-
-prim_type_told : (text : List ℕ) → IsTold (prim_type text)
-unfolding prim_type
-prim_type_told text = either (bytes_eq text (codes "-")) _ _ tt (identifier_told text)
-
 path_fault_told : (fault : PathFault) → IsOfText (path_fault fault)
 path_fault_told (path.Syntax at) = tt
 path_fault_told path.TooDeep = tt
 path_fault_told path.NameTooLong = tt
 path_fault_told path.NoMemory = tt
+
+named_told : (r : Result (List ℕ) PathFault) → IsTold (named r)
+named_told (Ok name) = tt
+named_told (Err fault) = path_fault_told fault
+
+prim_type_told : (text : List ℕ) → IsTold (prim_type text)
+unfolding prim_type
+prim_type_told text = either (bytes_eq text (codes "-")) (Ok []) (identifier text) tt (named_told (name_at 0 0 text))
 
 below_root_told : (r : Result Path PathFault) → IsTold (below_root r)
 below_root_told (Ok []) = tt

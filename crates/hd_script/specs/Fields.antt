@@ -1,17 +1,18 @@
 -- What a word says, and what its first fault is.
 use Rattle.std.specs.Prelude.{ℕ, List, [], ◌∷◌, length, Bool, ◌&&◌, ◌||◌, not, ◌==◌, nat_le, nat_lt, Option, Result, Ok, Err, if◌then◌else◌, codes}
-use Rattle.std.specs.List.{list_all, prefix_len}
+use Rattle.std.specs.List.{list_all}
 use Rattle.std.specs.Str.{bytes_eq}
 use Rattle.std.specs.Str.Parse.{digits_value}
 use Rattle.hd_path.specs.declared.fault.PathFault.{PathFault}
 use Rattle.hd_path.specs.declared.fault.PathFault.TheVariants as path
-use Rattle.hd_path.specs.Parsing.{parsed}
+use Rattle.hd_path.specs.Names.{is_digit, is_word}
+use Rattle.hd_path.specs.Parsing.{name_at, parsed}
 use Rattle.hd_usda.specs.declared.fault.LayerWhy.{LayerWhy}
 use Rattle.hd_usda.specs.declared.fault.LayerWhy.TheVariants as why
 use Rattle.hd_usda.specs.declared.limits.Which.TheVariants.{Depth, Name, Frame}
 use Rattle.hd_usda.specs.declared.spec.Property.{Property}
 use Rattle.hd_usda.specs.Cursors.{Fault}
-use Rattle.hd_usda.specs.Lexing.{is_letter, is_digit, is_word, begins}
+use Rattle.hd_usda.specs.Lexing.{begins}
 use Rattle.hd_usda.specs.Limits.{limit_of}
 use Rattle.hd_usda.specs.Names.{is_joined}
 use Rattle.hd_usda.specs.Prims.{Path}
@@ -54,29 +55,25 @@ is_file_name text = nat_le 1 (length text) && nat_le (length text) 64 && list_al
 unfoldable pub file_name : List ℕ → Result (List ℕ) LineFault
 file_name text = if is_file_name text then Ok text else Err Syntax
 
--- how many bytes at the front belong to an identifier
-abbrev pub identifier_len : List ℕ → ℕ
-identifier_len text = if begins is_letter text then prefix_len is_word text else 0
-
--- an identifier within the limit
-abbrev pub identifier : List ℕ → Result (List ℕ) LineFault
-identifier text =
-    let n = identifier_len text in
-    if n == 0 then Err Syntax
-    else (if nat_lt (limit_of Name) n then Err (Limit Name)
-    else (if nat_lt n (length text) then Err Syntax
-    else Ok text))
-
--- the type of a prim, where `-` stands for none
-unfoldable pub prim_type : List ℕ → Result (List ℕ) LineFault
-prim_type text = if bytes_eq text (codes "-") then Ok [] else identifier text
-
--- what is wrong with a path
+-- what is wrong with a path, of which want of memory is never said
 abbrev pub path_fault : PathFault → LineFault
 path_fault (path.Syntax at) = Syntax
 path_fault path.TooDeep = Limit Depth
 path_fault path.NameTooLong = Limit Name
 path_fault path.NoMemory = Syntax
+
+-- a name that was parsed
+abbrev pub named : Result (List ℕ) PathFault → Result (List ℕ) LineFault
+named (Ok name) = Ok name
+named (Err fault) = Err (path_fault fault)
+
+-- an identifier within the limit, as the first name of a path is
+abbrev pub identifier : List ℕ → Result (List ℕ) LineFault
+identifier text = named (name_at 0 0 text)
+
+-- the type of a prim, where `-` stands for none
+unfoldable pub prim_type : List ℕ → Result (List ℕ) LineFault
+prim_type text = if bytes_eq text (codes "-") then Ok [] else identifier text
 
 -- a path that was parsed, if it is that of a prim
 abbrev pub below_root : Result Path PathFault → Result Path LineFault

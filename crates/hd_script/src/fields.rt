@@ -2,12 +2,13 @@
 
 ghost use Rattle.std.specs.Prelude.{◌≡◌, ◌≤◌, length, nat_le, IfOk, IfSome, IsTrue};
 ghost use Rattle.std.specs.List.{list_all, prefix_len};
+ghost use Rattle.hd_path.specs.Names.{is_letter, is_digit, is_word, identifier_len};
 ghost use Rattle.hd_path.specs.Parsing.{parsed};
 ghost use Rattle.hd_usda.specs.Edits.{is_below_root, may_be_set};
-ghost use Rattle.hd_usda.specs.Lexing.{is_letter, is_digit, is_word, begins};
+ghost use Rattle.hd_usda.specs.Lexing.{begins};
 ghost use Rattle.hd_usda.specs.Names.{is_joined};
 ghost use Rattle.hd_script.specs.Faults.{Gives};
-ghost use Rattle.hd_script.specs.Fields.{is_number, number, within_frame, size, is_name_byte, is_point, is_file_name, file_name, identifier_len, identifier, prim_type, below_root, prim_path, property_name, property_fault, property};
+ghost use Rattle.hd_script.specs.Fields.{is_number, number, within_frame, size, is_name_byte, is_point, is_file_name, file_name, identifier, prim_type, below_root, prim_path, property_name, property_fault, property};
 ghost use Rattle.hd_script.specs.WellFormed.{is_size};
 
 use crate::fault::LineFault;
@@ -127,24 +128,24 @@ fn word_len(text: &[u8]) -> usize
     text.iter().take_while(|b| is_word(**b)).count()
 }
 
-fn begins_word(text: &[u8]) -> bool
-    ensures { result ≡ begins is_letter text.now }
-{
-    match text {
-        [] => false,
-        [b, ..] => is_letter(*b),
-    }
-}
-
 /// How many bytes at the front belong to an identifier.
 fn identifier_len(text: &[u8]) -> usize
     ensures count { result ≡ identifier_len text.now }
     ensures bound { result ≤ length text.now }
 {
-    if begins_word(text) { word_len(text) } else { 0 }
+    match text {
+        [] => 0,
+        [first, ..] => {
+            if is_letter(*first) {
+                word_len(text)
+            } else {
+                0
+            }
+        }
+    }
 }
 
-/// An identifier within the limit.
+/// An identifier within the limit, whose first fault is that of a name in a path.
 fn identifier(alloc: Global, text: &str) -> Result<Token, LineFault>
     ensures { Gives (λ name. name) result (identifier text.now) }
 {
