@@ -135,13 +135,7 @@ fn identifier_len(text: &[u8]) -> usize
 {
     match text {
         [] => 0,
-        [first, ..] => {
-            if is_letter(*first) {
-                word_len(text)
-            } else {
-                0
-            }
-        }
+        [first, ..] => { if is_letter(*first) { word_len(text) } else { 0 } }
     }
 }
 

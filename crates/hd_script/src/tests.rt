@@ -123,6 +123,7 @@ const FRAMES: &[(&str, &str)] = &[
 const EDITS: &[(&str, &str)] = &[
     ("def Mesh /A", "def [Mesh] /A"),
     ("def - /A/b_1", "def [] /A/b_1"),
+    ("def Mesh /X/Y", "def [Mesh] /X/Y"),
     ("def inf /nan", "def [inf] /nan"),
     ("def _x1 /A", "def [_x1] /A"),
     ("def 1a /A", "syntax"),
@@ -159,6 +160,7 @@ const EDITS: &[(&str, &str)] = &[
     ("remove /A /B", "syntax"),
     ("rename /A /B/C", "rename /A /B/C"),
     ("rename /A /A", "rename /A /A"),
+    ("rename /T /T/X", "rename /T /T/X"),
     ("rename", "syntax"),
     ("rename /A", "syntax"),
     ("rename / /B", "syntax"),
