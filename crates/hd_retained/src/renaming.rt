@@ -1,6 +1,6 @@
 //! The renaming of a prim with all that is below it.
 
-ghost use Rattle.std.specs.Prelude.{◌≡◌, ◌≢◌, ◌⊎◌, [], length, map, true, false, Ok, OnOk, OnErr, IfOk, IfErr, IsTrue};
+ghost use Rattle.std.specs.Prelude.{◌≡◌, ◌≢◌, ◌⊎◌, [], length, map, false, Ok, OnOk, OnErr, IfOk, IfErr, IsTrue};
 ghost use Rattle.std.specs.List.{list_all, list_any};
 ghost use Rattle.hd_usda.specs.declared.limits.Which.TheVariants.{Depth};
 ghost use Rattle.hd_value.specs.Locators.{is_prefix};

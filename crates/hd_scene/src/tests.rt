@@ -1,6 +1,6 @@
 //! Worked examples of notices and of a scene index.
 
-ghost use Rattle.std.specs.Prelude.{◌≡◌, IfOk};
+ghost use Rattle.std.specs.Prelude.{IfOk};
 ghost use Rattle.hd_scene.specs.Scenes.{IsClosed};
 
 mod layer;

@@ -1,9 +1,8 @@
 //! What a word says.
 
-ghost use Rattle.std.specs.Prelude.{◌≡◌, ◌≤◌, length, nat_le, IfOk, IfSome, IsTrue};
+ghost use Rattle.std.specs.Prelude.{◌≡◌, ◌≤◌, length, IfOk, IsTrue};
 ghost use Rattle.std.specs.List.{list_all, prefix_len};
 ghost use Rattle.hd_path.specs.Names.{is_letter, is_digit, is_word, identifier_len};
-ghost use Rattle.hd_path.specs.Parsing.{parsed};
 ghost use Rattle.hd_usda.specs.Edits.{is_below_root, may_be_set};
 ghost use Rattle.hd_usda.specs.Lexing.{begins};
 ghost use Rattle.hd_usda.specs.Names.{is_joined};

@@ -1,5 +1,5 @@
 -- The paths of used relationships.
-use Rattle.std.specs.Prelude.{ℕ, List, [], ◌∷◌, length, Bool, false, ◌&&◌, not, ◌==◌, nat_lt, drop, count_by, Result, Ok, Err, if◌then◌else◌, codes}
+use Rattle.std.specs.Prelude.{ℕ, List, [], ◌∷◌, length, Bool, false, ◌&&◌, not, nat_lt, drop, count_by, Result, Ok, Err, if◌then◌else◌, codes}
 use Rattle.std.specs.List.{list_all, list_any}
 use Rattle.hd_usda.specs.declared.lexer.Kind.TheVariants.{PathText}
 use Rattle.hd_usda.specs.declared.fault.LayerWhy.{LayerWhy}

@@ -1,9 +1,8 @@
 //! Lists in the values of used properties.
 
 ghost use Rattle.std.specs.Prelude.{◌≡◌, ◌<◌, false, OnOk};
-ghost use Rattle.hd_usda.specs.declared.lexer.Kind.TheVariants.{CloseSquare, End};
-ghost use Rattle.hd_usda.specs.Lexing.{Tokens};
-ghost use Rattle.hd_usda.specs.Cursors.{count, same_kind, Gives};
+ghost use Rattle.hd_usda.specs.declared.lexer.Kind.TheVariants.{CloseSquare};
+ghost use Rattle.hd_usda.specs.Cursors.{count, Gives};
 ghost use Rattle.hd_usda.specs.Loops.{all};
 ghost use Rattle.hd_usda.specs.Elements.{one_more, next_element, list_of};
 

@@ -1,9 +1,7 @@
 //! Numbers that are judged by their exact value, their exponent included.
 
 ghost use Rattle.std.specs.Prelude.{◌≡◌, ◌≤◌, ◌<◌, ◌+◌, ◌*◌, ◌^◌, ◌==◌, nat_le, min, length};
-ghost use Rattle.std.specs.List.{list_all};
-ghost use Rattle.hd_usda.specs.Lexing.{begins};
-ghost use Rattle.hd_usda.specs.Decimals.{is_minus, is_zero, digits_from};
+ghost use Rattle.hd_usda.specs.Decimals.{digits_from};
 ghost use Rattle.hd_usda.specs.DecimalViews.{decimal_view};
 ghost use Rattle.hd_usda.specs.Exactly.{behind_point, is_nought, sum_from, digit_sum, zeros_from, last_zeros, signed_exponent, exponent_of, places_left, places_right, is_turn, is_one};
 

@@ -2,11 +2,11 @@
 
 ghost use Rattle.std.specs.List.{list_all};
 ghost use Rattle.hd_num.specs.Matrices.{is_within};
-ghost use Rattle.std.specs.Prelude.{◌≡◌, ◌≤◌, ◌<◌, ◌^◌, unsigned_abs, OnOk, IfOk, IfSome, true, false};
+ghost use Rattle.std.specs.Prelude.{◌≡◌, ◌≤◌, ◌<◌, ◌^◌, unsigned_abs, OnOk, IfOk, true, false};
 ghost use Rattle.hd_usda.specs.declared.lexer.Kind.TheVariants.{End};
 ghost use Rattle.hd_usda.specs.Cursors.{count, same_kind, Gives};
 ghost use Rattle.hd_usda.specs.DecimalViews.{decimal_view};
-ghost use Rattle.hd_usda.specs.Numbers.{is_endless, departs, need, meets, limited, known, number, triple, row};
+ghost use Rattle.hd_usda.specs.Numbers.{is_endless, departs, need, meets, known, number, triple, row};
 
 use crate::cursor::Cursor;
 use crate::decimal::{Decimal, amount, is_fractional, parts_of};

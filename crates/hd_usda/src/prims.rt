@@ -7,7 +7,7 @@ ghost use Rattle.std.specs.FinSet.{empty};
 ghost use Rattle.hd_path.specs.Names.{IsName};
 ghost use Rattle.hd_usda.specs.Cursors.{count, Gives};
 ghost use Rattle.hd_usda.specs.Loops.{all};
-ghost use Rattle.hd_usda.specs.Prims.{empty_body, is_prim, prim_type, is_name, next_count, prim_name, head, with_prim, property_item, item, body, prim, root_item, inside_new, layer_of, layer};
+ghost use Rattle.hd_usda.specs.Prims.{empty_body, is_prim, prim_type, is_name, next_count, prim_name, head, with_prim, property_item, item, body, prim, root_item, layer_of, layer};
 ghost use Rattle.hd_usda.specs.declared.prims.Found.{Found};
 ghost use Rattle.hd_usda.specs.Bodies.{body_view};
 ghost use Rattle.hd_usda.specs.PrimViews.{found_view, inside_view, named_view, head_view};

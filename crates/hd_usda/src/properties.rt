@@ -4,7 +4,7 @@ ghost use Rattle.std.specs.Prelude.{◌≡◌, ◌≤◌, codes, nat_eq, length,
 ghost use Rattle.std.specs.List.{starts_with};
 ghost use Rattle.std.specs.Option.{option_map};
 ghost use Rattle.hd_usda.specs.Metadata.{is_any};
-ghost use Rattle.hd_usda.specs.Properties.{named_row, kind_role, op_role, content_of, role_of, is_target_name, vector_types, types_of, is_array, allows, visibilities, purposes, is_used, is_op_entry};
+ghost use Rattle.hd_usda.specs.Properties.{named_row, kind_role, op_role, content_of, role_of, is_target_name, vector_types, types_of, is_array, allows, visibilities, purposes, is_op_entry};
 
 use crate::words::{is_joined, part_len};
 

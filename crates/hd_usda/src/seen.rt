@@ -14,7 +14,7 @@ pub struct Seen {
 }
 
 impl Model for Seen {
-    ghost use Rattle.std.specs.Prelude.{map, List, ℕ};
+    ghost use Rattle.std.specs.Prelude.{map};
     ghost use Rattle.std.specs.Ordering.{nat_cmp};
     ghost use Rattle.std.specs.Cmp.Lexicographic.{slice_cmp};
     ghost use Rattle.std.specs.Coded.{coded_ℕ, coded_list};

@@ -1,10 +1,10 @@
 //! One property with its value, as the text of a script has it.
 
-ghost use Rattle.std.specs.Prelude.{◌≡◌, ◌<◌, ◌≤◌, Ok, IsAscii, IsTrue, IfOk, IfErr, IfSome, OnOk};
+ghost use Rattle.std.specs.Prelude.{◌≡◌, ◌<◌, Ok, IsAscii, IsTrue, IfOk, IfErr, IfSome, OnOk};
 ghost use Rattle.hd_usda.specs.declared.fault.LayerFault.TheVariants.{NoMemory};
 ghost use Rattle.hd_usda.specs.Lexing.{Tokens};
 ghost use Rattle.hd_usda.specs.Cursors.{count, Gives, Fails};
-ghost use Rattle.hd_usda.specs.Statements.{equals, attribute_value, relation_value, admitted, named, relation, attribute, relation_or_attribute, ends, statement, on_one_line, reads_property};
+ghost use Rattle.hd_usda.specs.Statements.{equals, attribute_value, relation_value, admitted, named, relation, attribute, relation_or_attribute, ends, statement, reads_property};
 ghost use Rattle.hd_usda.specs.WellFormed.{is_property};
 
 use crate::attribute::{Lead, Tail, is_misnamed};

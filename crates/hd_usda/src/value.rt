@@ -1,6 +1,6 @@
 //! Values that are read past.
 
-ghost use Rattle.std.specs.Prelude.{◌≡◌, ◌<◌, ◌≤◌, OnOk};
+ghost use Rattle.std.specs.Prelude.{◌<◌, ◌≤◌, OnOk};
 ghost use Rattle.hd_usda.specs.declared.lexer.Kind.TheVariants.{Colon, CloseRound, CloseSquare};
 ghost use Rattle.hd_usda.specs.Cursors.{count, Gives};
 ghost use Rattle.hd_usda.specs.Loops.{past, chain};

@@ -19,7 +19,6 @@ pub struct Element {
 
 impl Model for Element {
     ghost use Rattle.std.specs.Prelude.{List, ℕ};
-    ghost use Rattle.std.specs.Option.{unwrap_or};
     ghost use Rattle.hd_value.specs.Locators.{text_of};
 
     ghost Value = { List ℕ };
