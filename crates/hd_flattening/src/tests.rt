@@ -297,20 +297,34 @@ fn what_is_replaced_is_gone_and_all_else_passes(rt: HostRuntime) -> Result<(), F
     Ok(())
 }
 
-/// The number of prims below a path.
-fn count_below<I: SceneIndex>(index: &mut I, alloc: Global, text: &str) -> Result<usize, AllocError>
+/// The names of the prims below a path, each behind a blank.
+fn names_below<I: SceneIndex>(
+    index: &mut I,
+    alloc: Global,
+    text: &str,
+) -> Result<String, AllocError>
     requires { I.is_in_step index.old }
     ensures { I.is_in_step index.new }
 {
-    Ok(index.children(alloc, &path(alloc, text)?)?.len())
+    let names = index.children(alloc, &path(alloc, text)?)?;
+    let mut all = String::new(alloc);
+    for name in names.items() {
+        all.push(' ')?;
+        all.push_str(name.text())?;
+    }
+    Ok(all)
 }
 
 #[test]
 fn children_are_those_of_the_input(rt: HostRuntime) -> Result<(), Fail> {
     let alloc = rt.alloc();
     let mut flat = chain(alloc, nothing(), nothing(), nothing())?;
-    for (text, want) in [("/", 1), ("/A", 1), ("/A/B/C", 0), ("/D", 0)] {
-        assert_eq!(rt; count_below(&mut flat, alloc, text)?, want, "at {text}");
+    for (text, want) in [("/", " A"), ("/A", " B"), ("/A/B/C", ""), ("/D", "")] {
+        assert_eq!(rt;
+            names_below(&mut flat, alloc, text)?.as_str(),
+            want,
+            "at {text}"
+        );
     }
     assert_eq!(rt; flat.pulls(), 0);
     assert_eq!(rt; flat.input().pulls(), 0);
