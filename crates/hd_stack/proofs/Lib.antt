@@ -3,3 +3,5 @@ pub mod KindsOf
 pub mod Editing
 pub mod Unnested
 pub mod Composing
+pub mod Counted
+pub mod Strongest

@@ -1,8 +1,10 @@
 -- Layers that make one scene together, of which the first is the strongest.
-use Rattle.std.specs.Prelude.{ℕ, List, map, All, Result, Ok, Err, slice_index_or, slice_set, refl}
+use Rattle.std.specs.Prelude.{ℕ, ◌≤◌, List, map, All, Result, Ok, Err, slice_index_or, slice_set, refl}
 use Rattle.std.specs.Coded.{Coded, code_by, coded×, coded_ℕ, coded_list}
-use Rattle.std.specs.FinMap.{empty}
+use Rattle.std.specs.FinMap.{empty, len}
 use Rattle.hd_usda.specs.declared.edit.Edit.{Edit}
+use Rattle.hd_usda.specs.declared.limits.Which.TheVariants.{Prims}
+use Rattle.hd_usda.specs.Limits.{limit_of}
 use Rattle.hd_value.specs.Shapes.{is_authored}
 use Rattle.hd_scene.specs.Scenes.{Scene, IsClosed, IsShapedBy}
 use Rattle.hd_retained.specs.declared.fault.EditFault.{EditFault}
@@ -42,10 +44,12 @@ with_layer layers number (Err fault) = Err fault
 abbrev pub edited_at : List Layer → ℕ → Edit → Result (List Layer) EditFault
 edited_at layers number edit = with_layer layers number (edited (layer_at layers number) edit)
 
--- the paths of a layer are paths, each prim has its parent, and has values that a text can author
+-- the paths of a layer are paths, each prim has its parent, and has values that a text can author; and there are no more
+-- prims than a layer may have
 pub record IsSound (layer : Layer) : Type 0 where
   pub closed : IsClosed (scene_of layer)
   pub shaped : IsShapedBy is_authored (scene_of layer)
+  pub few : len layer ≤ limit_of Prims
 
 abbrev pub AreSound : List Layer → Type 0
 AreSound layers = All IsSound layers

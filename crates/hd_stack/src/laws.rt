@@ -1,6 +1,6 @@
 //! What holds of layers, however they are composed.
 
-ghost use Rattle.hd_stack.specs.Laws.{ComposesOne, ComposesWeakerFirst, ComposesStrongerFirst, AuthoredIsUnnested};
+ghost use Rattle.hd_stack.specs.Laws.{ComposesOne, ComposesWeakerFirst, ComposesStrongerFirst, ComposesValues, AuthoredIsUnnested, ScenesAreBounded};
 
 /// One layer alone gives its own scene. The weaker layers may be composed first, and so may the stronger ones where
 /// they are sound, since no value that a text can author may stand above another one.
@@ -9,4 +9,14 @@ pub fn composing_is_associative()
     ensures weaker_first { ComposesWeakerFirst }
     ensures stronger_first { ComposesStrongerFirst }
     ensures unnested { AuthoredIsUnnested }
+{}
+
+/// At each locator a prim has the value of the first layer that authors one there.
+pub fn the_strongest_value_stands()
+    ensures { ComposesValues }
+{}
+
+/// The scene of sound layers has at most 65,536 prims for each of them: a text spells no more, and no edit gives more.
+pub fn scenes_are_bounded()
+    ensures { ScenesAreBounded }
 {}

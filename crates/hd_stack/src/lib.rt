@@ -4,7 +4,7 @@
 mod laws;
 mod stack;
 
-pub use laws::composing_is_associative;
+pub use laws::{composing_is_associative, scenes_are_bounded, the_strongest_value_stands};
 pub use stack::{Stack, Terminal};
 
 #[cfg(test)]
