@@ -1,7 +1,8 @@
 //! What prims have in scenes of several layers.
 
-use crate::scenes::SCENES;
-use crate::tests::stack_of;
+use crate::Stack;
+use crate::scenes::{GROUPS, SCENES, STEPS};
+use crate::tests::{made, set, stack_of};
 use hd_num::{Matrix, Rgb};
 use hd_path::Path;
 use hd_scene::{Prim, SceneIndex};
@@ -103,11 +104,8 @@ fn described(alloc: Global, prim: &Prim) -> Result<String, AllocError> {
     Ok(line)
 }
 
-/// What the prim at a path has in the scene of these layers.
-fn told(alloc: Global, layers: &[&[u8]], path: &str) -> Result<Option<String>, AllocError> {
-    let Some(mut stack) = stack_of(alloc, layers)? else {
-        return Ok(None);
-    };
+/// What the prim at a path has in the scene of a stack.
+fn told_of(stack: &mut Stack, alloc: Global, path: &str) -> Result<Option<String>, AllocError> {
     match Path::parse(alloc, path) {
         Ok(path) => {
             stack.is_in_step();
@@ -118,12 +116,34 @@ fn told(alloc: Global, layers: &[&[u8]], path: &str) -> Result<Option<String>, A
     }
 }
 
+/// The same of the stack of these layers.
+fn told(alloc: Global, layers: &[&[u8]], path: &str) -> Result<Option<String>, AllocError> {
+    match stack_of(alloc, layers)? {
+        Some(mut stack) => told_of(&mut stack, alloc, path),
+        None => Ok(None),
+    }
+}
+
 #[test]
 fn prims_have_what_their_layers_and_ancestors_give(rt: HostRuntime) -> Result<(), Fail> {
     for (layers, path, line) in SCENES {
         match told(rt.alloc(), layers, path)? {
             Some(told) => assert_eq!(rt; told.as_str(), *line),
             None => assert!(rt; false, "the layers are read, and the path is one"),
+        }
+    }
+    Ok(())
+}
+
+#[test]
+fn an_edit_changes_what_stands_below(rt: HostRuntime) -> Result<(), Fail> {
+    let alloc = rt.alloc();
+    let mut stack = made(alloc, &[GROUPS])?;
+    for (at, property, path, line) in STEPS {
+        assert!(rt; set(&mut stack, alloc, at, property).is_ok());
+        match told_of(&mut stack, alloc, path)? {
+            Some(told) => assert_eq!(rt; told.as_str(), *line),
+            None => assert!(rt; false, "the path is one"),
         }
     }
     Ok(())

@@ -409,3 +409,50 @@ pub const SCENES: &[Case] = &[
         "Mesh m 1,0,0,0,1,0,0,0,1,1,0,0 v 1 p render b /M c -",
     ),
 ];
+
+/// A layer that is edited: a group that is moved, and one that is scaled as far as a matrix reaches.
+pub const GROUPS: &[u8] =
+    b"#usda 1.0\ndef Xform \"P\" { uniform token[] xformOpOrder = [\"xformOp:translate\"]\ndef Mesh \"A\" {  }\ndef Mesh \"R\" { uniform token[] xformOpOrder = [\"!resetXformStack!\"]\n }\n }\ndef Xform \"Q\" { double3 xformOp:scale = (1048576, 1, 1)\nuniform token[] xformOpOrder = [\"xformOp:scale\"]\ndef Mesh \"M\" { double3 xformOp:scale = (1024, 1, 1)\nuniform token[] xformOpOrder = [\"xformOp:scale\"]\n }\n }";
+
+/// The path of a prim, a property that is set there, and a path with what its prim has then.
+pub type Step = (&'static str, &'static str, &'static str, &'static str);
+
+pub const STEPS: &[Step] = &[
+    // A property that is not used changes nothing.
+    (
+        "/P",
+        "string note = \"moved\"",
+        "/P/A",
+        "Mesh m 1,0,0,0,1,0,0,0,1,0,0,0 v 1 p default b - c -",
+    ),
+    (
+        "/P",
+        "double3 xformOp:translate = (1, 0, 0)",
+        "/P/A",
+        "Mesh m 1,0,0,0,1,0,0,0,1,1,0,0 v 1 p default b - c -",
+    ),
+    (
+        "/P",
+        "double3 xformOp:translate = (2, 0, 0)",
+        "/P/R",
+        "Mesh m 1,0,0,0,1,0,0,0,1,0,0,0 v 1 p default b - c -",
+    ),
+    (
+        "/P",
+        "token visibility = \"invisible\"",
+        "/P/A",
+        "Mesh m 1,0,0,0,1,0,0,0,1,2,0,0 v 0 p default b - c -",
+    ),
+    (
+        "/Q/M",
+        "double3 xformOp:scale = (1025, 1, 1)",
+        "/Q/M",
+        "Mesh m out v 1 p default b - c -",
+    ),
+    (
+        "/Q/M",
+        "double3 xformOp:scale = (1024, 1, 1)",
+        "/Q/M",
+        "Mesh m 1073741824,0,0,0,1,0,0,0,1,0,0,0 v 1 p default b - c -",
+    ),
+];

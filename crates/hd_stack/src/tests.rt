@@ -8,7 +8,7 @@ use crate::Stack;
 use hd_path::{Path, Token};
 use hd_retained::EditFault;
 use hd_scene::SceneIndex;
-use hd_usda::{Edit, LayerSpec, read_layer};
+use hd_usda::{Edit, LayerSpec, read_layer, read_property};
 use hd_value::{Locator, Source, Value};
 use std::alloc::{AllocError, Global};
 use std::test::Fail;
@@ -39,7 +39,7 @@ pub fn stack_of(alloc: Global, texts: &[&[u8]]) -> Result<Option<Stack>, AllocEr
 }
 
 /// The same, of texts that are layers.
-fn made(alloc: Global, texts: &[&[u8]]) -> Result<Stack, AllocError> {
+pub fn made(alloc: Global, texts: &[&[u8]]) -> Result<Stack, AllocError> {
     match stack_of(alloc, texts)? {
         Some(stack) => Ok(stack),
         None => Err(AllocError),
@@ -112,6 +112,21 @@ fn define(
         return Err(EditFault::NoMemory);
     }
     stack.edit(alloc, layer, &edit)
+}
+
+/// Sets a property, which is given as its text, in the strongest layer.
+pub fn set(stack: &mut Stack, alloc: Global, at: &str, text: &str) -> Result<(), EditFault> {
+    let Ok(property) = read_property(alloc, text) else {
+        return Err(EditFault::NoMemory);
+    };
+    let edit = Edit::Set {
+        path: below_root(alloc, at)?,
+        property,
+    };
+    if stack.layers() == 0 {
+        return Err(EditFault::NoMemory);
+    }
+    stack.edit(alloc, 0, &edit)
 }
 
 fn is_refused(answer: Result<(), EditFault>, want: EditFault) -> bool {
