@@ -1,5 +1,5 @@
 -- How many prims a layer has at most, and the scene of some layers.
-use Rattle.std.proofs.Common.{◌≡◌, ℕ, ◌+◌, ◌*◌, ◌≤◌, ◌<◌, suc, Bool, true, false, not, cond, ◌&&◌, if◌then◌else◌, List, [], ◌∷◌, length, map, Option, Some, None, is_some, Result, Ok, Err, IsTrue, refl, sym, ◌∙◌, ap, subst, arith}
+use Rattle.std.proofs.Common.{◌≡◌, ℕ, ◌+◌, ◌*◌, ◌≤◌, ◌<◌, suc, Bool, true, false, not, cond, ◌&&◌, if◌then◌else◌, List, [], ◌∷◌, length, map, Option, Some, None, is_some, Result, Ok, Err, refl, sym, ◌∙◌, ap, subst, arith}
 use Rattle.std.proofs.lemmas.Bool.{leb-false, leb-true}
 use Rattle.std.proofs.lemmas.List.{length-append, length-map}
 use Rattle.std.proofs.lemmas.Map.Keys.{IsDistinct-from_sorted}
@@ -28,9 +28,9 @@ use Rattle.hd_retained.specs.declared.fault.EditFault.TheVariants.{NoPrim, PrimT
 use Rattle.hd_retained.specs.Layers.{LayerPrim, Layer, layer_of, prim_at_path, entry_at_path, scene_of}
 use Rattle.hd_retained.specs.Edits.{State, has_parent, is_full_for, changed, with_value, without_value, is_moved_too_deep, moved_prim, edited}
 use Rattle.hd_retained.proofs.Closed.{get-left}
-use Rattle.hd_merging.specs.Merges.{tabulated, merged_entry, prims_at, merged}
+use Rattle.hd_merging.specs.Merges.{merged_entry, prims_at, merged}
 use Rattle.hd_flattening.specs.Flattened.{flat_entry, flattened}
-use Rattle.hd_stack.specs.Stacks.{composed, terminal_scene, IsSound, AreSound}
+use Rattle.hd_stack.specs.Stacks.{composed, AreSound}
 use Rattle.hd_stack.specs.Laws.{ScenesAreBounded}
 use Rattle.hd_stack.proofs.Layered.{layers_of, input_layer}
 

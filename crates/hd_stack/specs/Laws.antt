@@ -1,15 +1,13 @@
 -- What follows from the definitions.
-use Rattle.std.specs.Prelude.{◌≡◌, ◌≤◌, ◌*◌, ℕ, List, [], ◌∷◌, ◌++◌, length, map, Option, None}
-use Rattle.std.specs.Option.{option_or}
+use Rattle.std.specs.Prelude.{◌≡◌, ◌≤◌, ◌*◌, ℕ, List, [], ◌∷◌, ◌++◌, length, map}
 use Rattle.std.specs.FinMap.{len}
 use Rattle.hd_usda.specs.declared.limits.Which.TheVariants.{Prims}
 use Rattle.hd_usda.specs.Limits.{limit_of}
-use Rattle.hd_value.specs.declared.value.Value.{Value}
 use Rattle.hd_value.specs.Shapes.{is_authored}
 use Rattle.hd_scene.specs.Scenes.{value_at}
 use Rattle.hd_retained.specs.Layers.{Layer, scene_of}
 use Rattle.hd_merging.specs.Merges.{merged}
-use Rattle.hd_merging.specs.Laws.{IsUnnested}
+use Rattle.hd_merging.specs.Laws.{IsUnnested, strongest_value}
 use Rattle.hd_stack.specs.Stacks.{composed, terminal_scene, AreSound}
 
 -- one layer alone gives its own scene
@@ -28,15 +26,9 @@ ComposesStrongerFirst = (stronger weaker : List Layer) → AreSound stronger →
 abbrev pub AuthoredIsUnnested : Type 0
 AuthoredIsUnnested = IsUnnested is_authored
 
--- of several values, the first that is there
-abbrev pub first_there : List (Option Value) → Option Value
-first_there [] = None
-first_there (value ∷ values) = option_or value (first_there values)
-
 -- at a locator, a prim has the value of the first layer that authors one there
 abbrev pub ComposesValues : Type 0
-ComposesValues =
-    (layers : List Layer) (path at : List (List ℕ)) → AreSound layers → value_at (composed layers) path at ≡ first_there (map (λ layer. value_at (scene_of layer) path at) layers)
+ComposesValues = (layers : List Layer) (path at : List (List ℕ)) → AreSound layers → value_at (composed layers) path at ≡ strongest_value (map scene_of layers) path at
 
 -- the scene has at most as many prims as its layers may have
 abbrev pub ScenesAreBounded : Type 0

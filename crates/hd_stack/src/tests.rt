@@ -1,6 +1,6 @@
 //! Worked examples of edits of a stack.
 
-ghost use Rattle.std.specs.Prelude.{◌≡◌, ◌<◌, length, All, IfOk, IfSome, IsTrue};
+ghost use Rattle.std.specs.Prelude.{◌<◌, All, IfOk, IfSome, IsTrue};
 ghost use Rattle.hd_usda.specs.Edits.{is_below_root};
 ghost use Rattle.hd_usda.specs.WellFormed.{is_layer};
 

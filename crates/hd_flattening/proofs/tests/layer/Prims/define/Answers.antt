@@ -1,4 +1,4 @@
-use Rattle.std.proofs.Common.{◌≡◌, ◌≢◌, ℕ, List, [], length, sym, ◌∙◌, ap, subst}
+use Rattle.std.proofs.Common.{◌≢◌, ℕ, List, [], length, sym, ◌∙◌, ap, subst}
 use Rattle.std.specs.FinMap.{insert}
 use Rattle.hd_value.specs.Shapes.{is_instanced}
 use Rattle.hd_scene.specs.Scenes.{Scene, IsClosed, IsShapedBy}
