@@ -5,17 +5,7 @@ use Rattle.std.specs.Option.{option_map}
 use Rattle.hd_io.specs.Files.{FileList}
 use Rattle.hd_io.specs.Causes.{Rose}
 use Rattle.hd_io.specs.Acts.{Act, file, line, files_of, text_of, Cut, Outside, Adds, Wrote, WroteCut, NoFault}
-use Rattle.hd_app.proofs.CutLemmas.{nothing_added}
-
--- nothing is a beginning of any acts
-pub cut_nothing : (acts : List Act) → Cut acts [] []
-cut_nothing [] = (refl, refl)
-cut_nothing (file name bytes ∷ acts) = inl (refl, refl)
-cut_nothing (line bytes ∷ acts) = inl (refl, refl)
-
--- nothing was made of any acts
-pub nothing_written : (acts : List Act) (before : Outside) → WroteCut acts before before
-nothing_written acts before = ([], [], cut_nothing acts, record { files_added = nothing_added before.files; text_added = nothing_added before.text })
+use Rattle.hd_io.proofs.Cuts.{cut_nothing}
 
 pub same_faults : (before : Outside) → NoFault before before
 same_faults before = record { rack = refl; sink = refl }

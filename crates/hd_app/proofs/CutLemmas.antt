@@ -1,19 +1,9 @@
--- Acts that are broken off.
-use Rattle.std.proofs.Common.{◌≡◌, ℕ, ◌∙◌, List, [], ◌∷◌, ◌++◌, take, Option, Some, None, refl, sym, ap, inl, inr, append-nil}
-use Rattle.std.specs.Option.{option_map}
+-- A file and a line that are broken off.
+use Rattle.std.proofs.Common.{◌≡◌, ℕ, ◌∙◌, List, [], ◌∷◌, take, Option, refl, inl, inr}
 use Rattle.hd_io.specs.Files.{FileList}
 use Rattle.hd_io.specs.Acts.{file, line, Outside, outside, WroteCut}
 use Rattle.hd_io.specs.Writing.{with_whole, CutFile, CutLine}
-
--- nothing was added
-pub nothing_added : {A : Type 0} (held : Option (List A)) → held ≡ option_map (λ (xs : List A). xs ++ []) held
-nothing_added None = refl
-nothing_added {A} (Some xs) = ap (λ (ys : List A). Some ys) (sym (append-nil xs))
-
--- nothing was made of a file and a line
-pub none_made : (name bytes text : List ℕ) (before : Outside) → WroteCut (file name bytes ∷ line text ∷ []) before before
-none_made name bytes text before =
-    ([], [], inl (refl, refl), record { files_added = nothing_added before.files; text_added = nothing_added before.text })
+use Rattle.hd_io.proofs.Cuts.{nothing_added}
 
 -- a file was cut short, and the line behind it was not begun
 pub file_cut : (name bytes text : List ℕ) (files now : Option FileList) (held : Option (List ℕ)) (f g h : ℕ)

@@ -9,7 +9,7 @@ use Rattle.hd_io.specs.Acts.{file, line, Outside, WroteCut, WriteCause}
 use Rattle.hd_app.specs.Endings.{Ends, status_of_write}
 use Rattle.hd_app.specs.Outcomes.{drawn, root_frame, frame_line}
 use Rattle.hd_app.specs.Refusing.{Outcome}
-use Rattle.hd_app.proofs.CutLemmas.{none_made}
+use Rattle.hd_io.proofs.Cuts.{none_written}
 
 -- a write that was broken off ends the run
 pub broken : (outcome : Outcome) (before now : Outside) (fault : OutsideFault) → WroteCut outcome.acts before now → WriteCause before now fault
@@ -29,4 +29,4 @@ frame_broken name bytes text layer before now fault is_picture is_line cut cause
 
 -- memory ran out before anything was written
 pub unwritten : (name : List ℕ) (layer : LayerSpec) (before : Outside) → Ends (drawn name layer) before before (status_of_write NoMemory)
-unwritten name layer before = broken (drawn name layer) before before NoMemory (none_made _ _ _ before) (record { rack = refl; sink = refl })
+unwritten name layer before = broken (drawn name layer) before before NoMemory (none_written (drawn name layer).acts before) (record { rack = refl; sink = refl })

@@ -14,3 +14,4 @@ pub mod ScriptLemmas
 pub mod TextLemmas
 pub mod TileLemmas
 pub mod TopLemmas
+pub mod Wholeness

@@ -4,6 +4,7 @@ use Rattle.std.specs.Prelude.{IfSome, Result}
 use Rattle.hd_io.specs.Causes.{Rose}
 use Rattle.hd_io.specs.Acts.{Act, Outside, outside, Wrote, WroteCut, NoFault}
 use Rattle.hd_io.specs.Files.{FileList}
+use Rattle.hd_io.proofs.Cuts.{none_written}
 use Rattle.hd_script.specs.Commands.{reads_line}
 use Rattle.hd_script.specs.declared.command.Command.{Command}
 use Rattle.hd_script.specs.declared.fault.LineFault.{LineFault}
@@ -17,10 +18,10 @@ use Rattle.hd_session.specs.Steps as session
 use Rattle.hd_app.specs.declared.status.Status.{Status}
 use Rattle.hd_app.specs.declared.status.Status.TheVariants.{Done, Usage, Layer, Script, Limit, ReadFault, WriteFault, NoMemory}
 use Rattle.hd_app.specs.Endings.{Ends, IsBrokenOff}
-use Rattle.hd_app.specs.Lines.{DoesLine, acts_of_line, RefusesLine, lines_left}
+use Rattle.hd_app.specs.Lines.{RefusesLine, lines_left}
 use Rattle.hd_app.specs.Refusing.{Outcome, refused}
 use Rattle.hd_app.specs.Scripts.{LineStep, line_refusal, command_refusal, line_step, step_of_line, preceded, continued, ended, lines_of, outcome_of_lines}
-use Rattle.hd_app.proofs.ActLemmas.{nothing_written, same_faults, wrote_joined, cut_joined, wrote_cut_of_more, wrote_cut_of_none, faults_joined, rose_behind}
+use Rattle.hd_app.proofs.ActLemmas.{same_faults, wrote_joined, cut_joined, wrote_cut_of_more, wrote_cut_of_none, faults_joined, rose_behind}
 
 -- an outcome behind acts that were made whole
 ends_behind : (done : List Act) (outcome : Outcome) (before mid now : Outside) (status : Status) → Wrote done before mid → NoFault before mid
@@ -43,13 +44,13 @@ ends_behind done outcome before mid now status wrote none (inr (inr out)) = inr 
 
 -- a line that was done, and what ends behind it
 pub line_done : (further : State → Outcome) (step : LineStep) (after : State) (before mid now : Outside) (status : Status)
-    → DoesLine step after before mid → Ends (further after) mid now status → Ends (continued further step) before now status
+    → Does step after before mid → Ends (further after) mid now status → Ends (continued further step) before now status
 line_done further step after before mid now status does ends =
     subst (λ (s : LineStep). Ends (continued further s) before now status) (sym does.is)
     (ends_behind does.acts (further after) before mid now status does.written does.faults ends)
 
 -- what a line's acts can have left, they can have left of the whole script
-cut_of_line : (further : State → Outcome) (step : LineStep) (before now : Outside) → WroteCut (acts_of_line step) before now → WroteCut (continued further step).acts before now
+cut_of_line : (further : State → Outcome) (step : LineStep) (before now : Outside) → WroteCut (acts_of step) before now → WroteCut (continued further step).acts before now
 cut_of_line further (Ok done) before now cut = wrote_cut_of_more done.1 (further done.0).acts before now cut
 cut_of_line further (Err status) before now cut = wrote_cut_of_none (refused status).acts before now cut
 
@@ -78,7 +79,7 @@ line_refused further step before mid now (ReadFault name) status refuses ends br
 
 -- a line in which memory ran out before anything was written
 wants_memory : (step : LineStep) (before : Outside) → RefusesLine step before before NoMemory
-wants_memory step before = (nothing_written (acts_of_line step) before, same_faults before)
+wants_memory step before = (none_written (acts_of step) before, same_faults before)
 
 -- a line that is no command
 pub unread_line : (name : List ℕ) (number : ℕ) (s : State) (read : Result (Option Command) LineFault) (why : LineFault) (status : Status) (before : Outside)
@@ -95,7 +96,7 @@ unread_line name number s read (fault.Limit which) status before fails (inl is) 
     subst (λ (st : Status). RefusesLine (line_step name number s read) before before st) (sym is) (ap (line_step name number s) fails, refl)
 
 -- the acts of a step are those of its line
-cut_of_step : (name : List ℕ) (number : ℕ) (step : session.Step) (before now : Outside) → WroteCut (acts_of step) before now → WroteCut (acts_of_line (step_of_line name number step)) before now
+cut_of_step : (name : List ℕ) (number : ℕ) (step : session.Step) (before now : Outside) → WroteCut (acts_of step) before now → WroteCut (acts_of (step_of_line name number step)) before now
 cut_of_step name number (Ok done) before now cut = cut
 cut_of_step name number (Err why) before now cut = cut
 
@@ -120,7 +121,7 @@ undone_command name number step (refusal.Limit which) status before now refuses 
     (subst (λ (st : Status). RefusesLine (step_of_line name number step) before before st) (sym none) (wants_memory (step_of_line name number step) before))
 
 -- a command that was done
-pub done_command : (name : List ℕ) (number : ℕ) (step : session.Step) (after : State) (before now : Outside) → Does step after before now → DoesLine (step_of_line name number step) after before now
+pub done_command : (name : List ℕ) (number : ℕ) (step : session.Step) (after : State) (before now : Outside) → Does step after before now → Does (step_of_line name number step) after before now
 done_command name number step after before now does = record {
   acts = does.acts;
   is = ap (step_of_line name number) does.is;
@@ -129,24 +130,24 @@ done_command name number step after before now does = record {
 }
 
 -- a script whose end was done
-pub end_done : (s after : State) (before now : Outside) → Does (session.finish s) after before now → Ends (ended (session.finish s)) before now Done
+pub end_done : (s after : State) (before now : Outside) → Does (session.finish s) after before now → Ends (ended (session.at_end s)) before now Done
 end_done s after before now does =
-    subst (λ (st : session.Step). Ends (ended st) before now Done) (sym does.is) (inl (record { ending = refl; written = does.written; faults = does.faults }))
+    inl (record { ending = refl; written = subst (λ (acts : List Act). Wrote acts before now) (sym (ap acts_of does.is)) does.written; faults = does.faults })
 
 -- a script whose end was not done
 pub end_undone : (s : State) (why : Refusal) (status : Status) (before now : Outside) → Refuses (session.finish s) before now why
-    → (status ≡ command_refusal [] 0 why) ⊎ (status ≡ NoMemory) → (why ≡ refusal.WriteFault → status ≡ WriteFault)
-    → Ends (ended (session.finish s)) before now status
-end_undone s refusal.WriteFault status before now refuses given write = inr (inl (record { ending = write refl; written = refuses.0; faults = refuses.1 }))
-end_undone s refusal.NoMemory status before now refuses given write =
-    let is : status ≡ NoMemory = elim given as (λ _. status ≡ NoMemory) [ inl e ↦ e | inr e ↦ e ] in
-    inr (inr (record { ending = is; written = refuses.0; faults = refuses.1 }))
-end_undone s (refusal.Script cause) status before now refuses given write = let no : session.finish s ≡ Err (refusal.Script cause) = refuses.0 in cc
-end_undone s (refusal.Limit which) status before now refuses given write = let no : session.finish s ≡ Err (refusal.Limit which) = refuses.0 in cc
+    → (why ≡ refusal.WriteFault → status ≡ WriteFault) → (why ≡ refusal.NoMemory → status ≡ NoMemory)
+    → Ends (ended (session.at_end s)) before now status
+end_undone s refusal.WriteFault status before now refuses write memory = inr (inl (record { ending = write refl; written = refuses.0; faults = refuses.1 }))
+end_undone s refusal.NoMemory status before now refuses write memory = inr (inr (record { ending = memory refl; written = refuses.0; faults = refuses.1 }))
+end_undone s (refusal.Script cause) status before now refuses write memory =
+    let no : session.finish s ≡ Err (refusal.Script cause) = refuses.0 in cc
+end_undone s (refusal.Limit which) status before now refuses write memory =
+    let no : session.finish s ≡ Err (refusal.Limit which) = refuses.0 in cc
 
 -- a run in which memory ran out before anything was written
 pub unbegun : (outcome : Outcome) (before : Outside) → Ends outcome before before NoMemory
-unbegun outcome before = inr (inr (record { ending = refl; written = nothing_written outcome.acts before; faults = same_faults before }))
+unbegun outcome before = inr (inr (record { ending = refl; written = none_written outcome.acts before; faults = same_faults before }))
 
 -- a script that has come so far ends as the rest of it
 abbrev pub LeadsOn : Outcome → Outside → Outcome → Outside → Type 0
@@ -159,7 +160,7 @@ room (Some text) = suc (length text)
 
 -- a line that was done leads on to those behind it
 pub leads_on : (name : List ℕ) (number : ℕ) (s after : State) (text line : List ℕ) (rest : List (List ℕ)) (before mid : Outside)
-    → lines_of text ≡ line ∷ rest → DoesLine (line_step name number s (reads_line line)) after before mid
+    → lines_of text ≡ line ∷ rest → Does (line_step name number s (reads_line line)) after before mid
     → LeadsOn (outcome_of_lines name number s (lines_of text)) before (outcome_of_lines name (number + 1) after rest) mid
 leads_on name number s after text line rest before mid cut does now status ends =
     subst (λ (lines : List (List ℕ)). Ends (outcome_of_lines name number s lines) before now status) (sym cut)
@@ -196,7 +197,7 @@ script_refused name number first s bytes left text line rest start before mid no
 pub script_leads : (name : List ℕ) (number : ℕ) (first s after : State) (bytes : List ℕ) (left : Option (List ℕ)) (text line : List ℕ) (rest : List (List ℕ))
     (start before mid : Outside)
     → LeadsOn (outcome_of_lines name 1 first (lines_of bytes)) start (outcome_of_lines name number s (lines_left left)) before
-    → left ≡ Some text → lines_of text ≡ line ∷ rest → DoesLine (line_step name number s (reads_line line)) after before mid
+    → left ≡ Some text → lines_of text ≡ line ∷ rest → Does (line_step name number s (reads_line line)) after before mid
     → LeadsOn (outcome_of_lines name 1 first (lines_of bytes)) start (outcome_of_lines name (number + 1) after rest) mid
 script_leads name number first s after bytes left text line rest start before mid leads is cut does now status ends =
     leads now status (
@@ -206,7 +207,7 @@ script_leads name number first s after bytes left text line rest start before mi
 -- a script that was read to its end
 pub script_ended : (name : List ℕ) (number : ℕ) (first s : State) (bytes : List ℕ) (left : Option (List ℕ)) (start before now : Outside) (status : Status)
     → LeadsOn (outcome_of_lines name 1 first (lines_of bytes)) start (outcome_of_lines name number s (lines_left left)) before
-    → left ≡ None → Ends (ended (session.finish s)) before now status → Ends (outcome_of_lines name 1 first (lines_of bytes)) start now status
+    → left ≡ None → Ends (ended (session.at_end s)) before now status → Ends (outcome_of_lines name 1 first (lines_of bytes)) start now status
 script_ended name number first s bytes left start before now status leads is ends =
     leads now status (subst (λ (l : Option (List ℕ)). Ends (outcome_of_lines name number s (lines_left l)) before now status) (sym is) ends)
 

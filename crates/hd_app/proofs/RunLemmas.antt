@@ -13,7 +13,7 @@ use Rattle.hd_app.specs.Endings.{Ends, IsReadFault}
 use Rattle.hd_app.specs.Outcomes.{outcome_of, drawn, drawn_if_read, layer_in}
 use Rattle.hd_app.specs.Refusing.{Outcome, refused}
 use Rattle.hd_app.specs.Runs.{ShelfState, TellsRefusal, RefusesFiles, IsAnswerTo, Runs}
-use Rattle.hd_app.proofs.ActLemmas.{cut_nothing}
+use Rattle.hd_io.proofs.Cuts.{cut_nothing}
 
 -- of a line without bytes nothing can be written
 empty_line : (files : FileList) (text : List ℕ) → Cut (line [] ∷ []) files text → (files ≡ []) × (text ≡ [])

@@ -8,18 +8,16 @@ use Rattle.hd_usda.specs.declared.spec.LayerSpec.{LayerSpec}
 use Rattle.hd_usda.specs.Limits.{limit_of}
 use Rattle.hd_io.specs.Acts.{Act, Outside}
 use Rattle.hd_script.specs.declared.command.Command.{Command}
-use Rattle.hd_script.specs.declared.command.Command.TheVariants as command
 use Rattle.hd_script.specs.declared.fault.LineFault.{LineFault}
 use Rattle.hd_script.specs.declared.fault.LineFault.TheVariants as fault
 use Rattle.hd_script.specs.Commands.{reads_line}
-use Rattle.hd_retained.specs.declared.fault.EditFault.{EditFault}
-use Rattle.hd_retained.specs.declared.fault.EditFault.TheVariants as edit
-use Rattle.hd_retained.specs.Layers as retained
-use Rattle.hd_stack.specs.Stacks.{edited_at}
+use Rattle.hd_script.proofs.Causes.{no_want}
 use Rattle.hd_session.specs.declared.refusal.Refusal.{Refusal}
 use Rattle.hd_session.specs.declared.refusal.Refusal.TheVariants as refusal
+use Rattle.hd_session.specs.Laws.{is_own_cause}
 use Rattle.hd_session.specs.States.{State, opened}
 use Rattle.hd_session.specs.Steps as session
+use Rattle.hd_session.proofs.Causes.{have_own_causes}
 use Rattle.hd_app.specs.declared.status.Status.{Status}
 use Rattle.hd_app.specs.declared.status.Status.TheVariants.{Done, Usage, Layer, Script, Limit, ReadFault, WriteFault, NoMemory}
 use Rattle.hd_app.specs.declared.status.Place.TheVariants.{Words, File, Line}
@@ -39,68 +37,35 @@ EndsScript name (Script line cause) = Unit {0}
 EndsScript name (Limit (Line file line) which count) = (file ≡ name) × (count ≡ limit_of which)
 EndsScript name (Limit Words which count) = ⊥
 EndsScript name (Limit (File file) which count) = ⊥
-EndsScript name NoMemory = Unit {0}
+EndsScript name NoMemory = ⊥
 EndsScript name Usage = ⊥
 EndsScript name (Layer file line cause) = ⊥
 EndsScript name (ReadFault file) = ⊥
 EndsScript name WriteFault = ⊥
 
-line_refusal_ends : (name : List ℕ) (number : ℕ) (why : LineFault) → EndsScript name (line_refusal name number why)
-line_refusal_ends name number fault.Syntax = tt
-line_refusal_ends name number fault.LeftOut = tt
-line_refusal_ends name number fault.Fraction = tt
-line_refusal_ends name number (fault.Limit which) = (refl, refl)
-line_refusal_ends name number fault.NoMemory = tt
-
--- a command that is refused, and by no write
-abbrev pub IsOwn : session.Step → Type 0
-IsOwn (Ok done) = Unit {0}
-IsOwn (Err refusal.WriteFault) = ⊥
-IsOwn (Err (refusal.Script cause)) = Unit {0}
-IsOwn (Err (refusal.Limit which)) = Unit {0}
-IsOwn (Err refusal.NoMemory) = Unit {0}
-
-edit_own : (s : State) (done : Result (List retained.Layer) EditFault) → IsOwn (session.change_layers s done)
-edit_own s (Ok layers) = tt
-edit_own s (Err edit.NoPrim) = tt
-edit_own s (Err edit.PrimThere) = tt
-edit_own s (Err edit.UnderItself) = tt
-edit_own s (Err (edit.Limit which)) = tt
-edit_own s (Err edit.NoMemory) = tt
-
-either_own : (b : Bool) (x y : session.Step) → IsOwn x → IsOwn y → IsOwn (cond b x y)
-either_own true x y own other = own
-either_own false x y own other = other
-
-step_own : (s : State) (c : Command) → IsOwn (session.step s c)
-step_own s (command.Layer number) = either_own (nat_lt number (length s.layers)) _ _ tt tt
-step_own s (command.Edit edit) = edit_own s (edited_at s.layers s.current edit)
-step_own s command.Commit = tt
-step_own s (command.Dump name) = tt
-step_own s command.Report = tt
-step_own s (command.Start name width height camera) = tt
-step_own s (command.Tiles count) = tt
-step_own s command.Pause = tt
-step_own s command.Resume = tt
-step_own s command.Stop = tt
-step_own s command.Wait = tt
+line_refusal_ends : (name : List ℕ) (number : ℕ) (why : LineFault) → (why ≡ fault.NoMemory → ⊥) → EndsScript name (line_refusal name number why)
+line_refusal_ends name number fault.Syntax other = tt
+line_refusal_ends name number fault.LeftOut other = tt
+line_refusal_ends name number fault.Fraction other = tt
+line_refusal_ends name number (fault.Limit which) other = (refl, refl)
+line_refusal_ends name number fault.NoMemory other = other refl
 
 -- how a line ends a script, if it ends it
 abbrev pub EndsIfRefused : List ℕ → LineStep → Type 0
 EndsIfRefused name (Ok done) = Unit {0}
 EndsIfRefused name (Err status) = EndsScript name status
 
-command_ends : (name : List ℕ) (number : ℕ) (st : session.Step) → IsOwn st → EndsIfRefused name (step_of_line name number st)
+command_ends : (name : List ℕ) (number : ℕ) (st : session.Step) → ((why : Refusal) → st ≡ Err why → is_own_cause why ≡ true) → EndsIfRefused name (step_of_line name number st)
 command_ends name number (Ok done) own = tt
 command_ends name number (Err (refusal.Script cause)) own = tt
 command_ends name number (Err (refusal.Limit which)) own = (refl, refl)
-command_ends name number (Err refusal.WriteFault) own = own
-command_ends name number (Err refusal.NoMemory) own = tt
+command_ends name number (Err refusal.WriteFault) own = let no : false ≡ true = own refusal.WriteFault refl in cc
+command_ends name number (Err refusal.NoMemory) own = let no : false ≡ true = own refusal.NoMemory refl in cc
 
-line_ends : (name : List ℕ) (number : ℕ) (s : State) (read : Result (Option Command) LineFault) → EndsIfRefused name (line_step name number s read)
-line_ends name number s (Ok None) = tt
-line_ends name number s (Ok (Some c)) = command_ends name number (session.step s c) (step_own s c)
-line_ends name number s (Err why) = line_refusal_ends name number why
+line_ends : (name : List ℕ) (number : ℕ) (s : State) (read : Result (Option Command) LineFault) → (read ≡ Err fault.NoMemory → ⊥) → EndsIfRefused name (line_step name number s read)
+line_ends name number s (Ok None) wants = tt
+line_ends name number s (Ok (Some c)) wants = command_ends name number (session.step s c) (have_own_causes s c)
+line_ends name number s (Err why) wants = line_refusal_ends name number why (λ is. wants (ap (λ (w : LineFault). Err w) is))
 
 continued_ends : (name : List ℕ) (further : State → Outcome) (st : LineStep) → EndsIfRefused name st → ((after : State) → EndsScript name (further after).ending)
     → EndsScript name (continued further st).ending
@@ -112,7 +77,7 @@ pub script_ends : (name : List ℕ) (number : ℕ) (s : State) (lines : List (Li
 script_ends name number s [] = tt
 script_ends name number s (line ∷ lines) =
     continued_ends name (λ after. outcome_of_lines name (number + 1) after lines) (line_step name number s (reads_line line))
-    (line_ends name number s (reads_line line)) (λ after. script_ends name (number + 1) after lines)
+    (line_ends name number s (reads_line line) (no_want line)) (λ after. script_ends name (number + 1) after lines)
 
 -- what such an ending says of itself
 pub script_answers : (layers : List (List ℕ)) (name : List ℕ) (shelf : ShelfState) (status : Status) → EndsScript name status → IsAnswerTo (Some (step layers name)) shelf status
@@ -122,7 +87,7 @@ script_answers layers name shelf (Limit (Line file line) which count) ends =
     (subst (λ (f : List ℕ). Contains (layers ++ name ∷ []) f) (sym ends.0) (Contains-push layers name), ends.1)
 script_answers layers name shelf (Limit Words which count) ends = absurd ends
 script_answers layers name shelf (Limit (File file) which count) ends = absurd ends
-script_answers layers name shelf NoMemory ends = tt
+script_answers layers name shelf NoMemory ends = absurd ends
 script_answers layers name shelf Usage ends = absurd ends
 script_answers layers name shelf (Layer file line cause) ends = absurd ends
 script_answers layers name shelf (ReadFault file) ends = absurd ends
@@ -136,7 +101,7 @@ script_reads name (Layer file line cause) ends is = is
 script_reads name (Script line cause) ends is = is
 script_reads name (Limit place which count) ends is = is
 script_reads name WriteFault ends is = is
-script_reads name NoMemory ends is = is
+script_reads name NoMemory ends is = ends
 
 pub script_writes : (name : List ℕ) (status : Status) → EndsScript name status → status ≡ WriteFault → ⊥
 script_writes name status ends is = subst (EndsScript name) is ends

@@ -5,7 +5,7 @@ use Rattle.hd_io.specs.Causes.{Rose}
 use Rattle.hd_io.specs.Files.{FileMap}
 use Rattle.hd_app.specs.declared.status.Status.{Status}
 use Rattle.hd_app.specs.declared.status.Status.TheVariants.{ReadFault, WriteFault, NoMemory}
-use Rattle.hd_io.specs.Acts.{Outside, Wrote, WroteCut}
+use Rattle.hd_io.specs.Acts.{Outside, Wrote, WroteCut, NoFault}
 use Rattle.hd_app.specs.Commands.{Program}
 use Rattle.hd_app.specs.Endings.{Ends, IsReadFault}
 use Rattle.hd_app.specs.Outcomes.{outcome_of}
@@ -51,6 +51,17 @@ pub read_fault_line : (program : Option Program) (shelf_before shelf_now : Shelf
     → Runs program shelf_before shelf_now before now status → IsReadFault status → Wrote (refused status).acts before now
 read_fault_line program shelf_before shelf_now before now status (inl by_files) is = absurd (by_files.read is)
 read_fault_line program shelf_before shelf_now before now status (inr fault) is = ends_in_line fault.file before now status fault.ends is
+
+ends_alone : (layer : List ℕ) (before now : Outside) (status : Status) → Ends (refused (ReadFault layer)) before now status → IsReadFault status → NoFault before now
+ends_alone layer before now status (inl whole) is = whole.faults
+ends_alone layer before now status (inr (inl off)) is = absurd (subst IsReadFault off.ending is)
+ends_alone layer before now status (inr (inr out)) is = absurd (subst IsReadFault out.ending is)
+
+-- and neither the rack nor the sink failed
+pub read_fault_alone : (program : Option Program) (shelf_before shelf_now : ShelfState) (before now : Outside) (status : Status)
+    → Runs program shelf_before shelf_now before now status → IsReadFault status → NoFault before now
+read_fault_alone program shelf_before shelf_now before now status (inl by_files) is = absurd (by_files.read is)
+read_fault_alone program shelf_before shelf_now before now status (inr fault) is = ends_alone fault.file before now status fault.ends is
 
 -- a write fault is answered only where the rack or the sink failed
 pub write_fault : (program : Option Program) (shelf_before shelf_now : ShelfState) (before now : Outside) (status : Status)

@@ -4,6 +4,7 @@ pub mod Endings
 pub mod Fans
 pub mod FaultLines
 pub mod Frames
+pub mod Laws
 pub mod Lines
 pub mod Outcomes
 pub mod Outside

@@ -41,9 +41,9 @@ command_refusal script number (refusal.Limit which) = Limit (Line script number)
 command_refusal script number refusal.WriteFault = WriteFault
 command_refusal script number refusal.NoMemory = NoMemory
 
--- the state and the acts, or the refusal
+-- what a line does, or why it is refused
 abbrev pub LineStep : Type 0
-LineStep = Result (State × List Act) Status
+LineStep = Result session.Done Status
 
 abbrev pub step_of_line : (script : List ℕ) (number : ℕ) → session.Step → LineStep
 step_of_line script number (Ok done) = Ok done
@@ -65,12 +65,11 @@ continued further (Ok done) = preceded done.1 (further done.0)
 continued further (Err status) = refused status
 
 -- the outcome of the end of a script
-abbrev pub ended : session.Step → Outcome
-ended (Ok done) = record { acts = done.1; ending = Done }
-ended (Err why) = refused (command_refusal [] 0 why)
+abbrev pub ended : session.Done → Outcome
+ended done = record { acts = done.1; ending = Done }
 
 -- the outcome of lines, of which the first has this number, from a state on
 abbrev pub outcome_of_lines : (script : List ℕ) (number : ℕ) → State → (lines : List (List ℕ)) → Outcome
-outcome_of_lines script number s [] = ended (session.finish s)
+outcome_of_lines script number s [] = ended (session.at_end s)
 outcome_of_lines script number s (line ∷ lines) =
     continued (λ after. outcome_of_lines script (number + 1) after lines) (line_step script number s (reads_line line))

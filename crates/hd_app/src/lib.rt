@@ -3,6 +3,7 @@
 
 mod frame;
 mod inputs;
+mod laws;
 mod layer;
 #[cfg(test)]
 mod layer_tests;
@@ -24,5 +25,6 @@ mod words;
 mod worked_tests;
 mod writing;
 
+pub use laws::outcomes_end_whole;
 pub use status::{Place, Status};
 pub use top::top_plain;

@@ -17,11 +17,13 @@ const PASSED: &[u8] =
 #[test]
 fn words_and_files_are_refused_in_order(rt: HostRuntime) -> Result<(), Fail> {
     // The words, the layers `a` and `b`, the script, the number that the program ends with, and what it writes.
-    let table: [(&[&str], &[&[u8]], &[u8], u8, &[u8]); 20] = [
+    let table: [(&[&str], &[&[u8]], &[u8], u8, &[u8]); 22] = [
         (&["step"], &[EMPTY], b"", 1, b"fault usage\n"),
         (&["step", "a"], &[EMPTY], b"", 1, b"fault usage\n"),
         (&["step", "s"], &[EMPTY], b"", 1, b"fault usage\n"),
         (&["Step", "a", "s"], &[EMPTY], b"", 1, b"fault usage\n"),
+        (&["run", "2", "a", "s"], &[EMPTY], b"", 1, b"fault usage\n"),
+        (&["demo", "12"], &[EMPTY], b"", 1, b"fault usage\n"),
         (&["step", "a", "s"], &[EMPTY], b"", 0, b""),
         (
             &["step", "a", "a", "s"],

@@ -5,13 +5,14 @@ ghost use Rattle.std.specs.List.{position};
 ghost use Rattle.hd_io.specs.Acts.{outside};
 ghost use Rattle.hd_script.specs.Commands.{reads_line};
 ghost use Rattle.hd_script.specs.WellFormed.{is_command};
-ghost use Rattle.hd_session.specs.Steps.{step, finish};
+ghost use Rattle.hd_session.specs.Answers.{Does};
+ghost use Rattle.hd_session.specs.Steps.{step, at_end};
 ghost use Rattle.hd_session.specs.States.{opened};
 ghost use Rattle.hd_usda.specs.Limits.{limit_of};
 ghost use Rattle.hd_usda.specs.WellFormed.{is_layer};
 ghost use Rattle.hd_app.specs.declared.status.Place.TheVariants.{Line};
 ghost use Rattle.hd_app.specs.Endings.{Ends};
-ghost use Rattle.hd_app.specs.Lines.{DoesLine, RefusesLine, lines_left};
+ghost use Rattle.hd_app.specs.Lines.{RefusesLine, lines_left};
 ghost use Rattle.hd_app.specs.Outside.{byte_limit};
 ghost use Rattle.hd_app.specs.Scripts.{lines_of, line_refusal, command_refusal, line_step, step_of_line, ended, outcome_of_lines};
 
@@ -77,7 +78,7 @@ fn run_command<K: Rack, O: Sink>(
 ) -> Result<(), Status>
     requires unspent { session.old.is_spent ≡ false }
     requires formed { IsTrue (is_command command.now) }
-    ensures done { OnOk result (DoesLine (step_of_line name.now number (step session.old.state command.now)) session.new.state
+    ensures done { OnOk result (Does (step_of_line name.now number (step session.old.state command.now)) session.new.state
         (outside (K.held rack.old) (K.faults rack.old) (O.held out.old) (O.faults out.old))
         (outside (K.held rack.new) (K.faults rack.new) (O.held out.new) (O.faults out.new))) }
     ensures unspent { OnOk result (session.new.is_spent ≡ false) }
@@ -103,7 +104,7 @@ fn run_line<K: Rack, O: Sink>(
     out: &mut O,
 ) -> Result<(), Status>
     requires unspent { session.old.is_spent ≡ false }
-    ensures done { OnOk result (DoesLine (line_step name.now number session.old.state (reads_line line.now)) session.new.state
+    ensures done { OnOk result (Does (line_step name.now number session.old.state (reads_line line.now)) session.new.state
         (outside (K.held rack.old) (K.faults rack.old) (O.held out.old) (O.faults out.old))
         (outside (K.held rack.new) (K.faults rack.new) (O.held out.new) (O.faults out.new))) }
     ensures unspent { OnOk result (session.new.is_spent ≡ false) }
@@ -137,23 +138,29 @@ fn split_line(text: &[u8]) -> (&[u8], Option<&[u8]>)
     }
 }
 
-/// Ends a script that was read to its end. No line is left to be refused: that the end is not done has its cause in a
-/// write or in want of memory.
-fn end_script<K: Rack, O: Sink>(
-    alloc: Global,
-    session: &mut Session,
-    rack: &mut K,
-    out: &mut O,
-) -> Status
+/// How a run ends in which the end of the script was not done. No line is left to be refused, so a write failed or memory
+/// ran out.
+fn unfinished(refusal: Refusal) -> Status
+    ensures write_fault { refusal ≡ Refusal.WriteFault → result ≡ Status.WriteFault }
+    ensures memory { refusal ≡ Refusal.NoMemory → result ≡ Status.NoMemory }
+{
+    match refusal {
+        Refusal::WriteFault => Status::WriteFault,
+        _ => Status::NoMemory,
+    }
+}
+
+/// Ends a script that was read to its end.
+fn end_script<K: Rack, O: Sink>(session: &mut Session, rack: &mut K, out: &mut O) -> Status
     requires unspent { session.old.is_spent ≡ false }
-    ensures ends { Ends (ended (finish session.old.state))
+    ensures ends { Ends (ended (at_end session.old.state))
         (outside (K.held rack.old) (K.faults rack.old) (O.held out.old) (O.faults out.old))
         (outside (K.held rack.new) (K.faults rack.new) (O.held out.new) (O.faults out.new)) result }
     ensures open { K.is_open rack.new ≡ K.is_open rack.old }
 {
     match session.finish(rack, out) {
         Ok(()) => Status::Done,
-        Err(refusal) => command_refusal(alloc, "", 0, refusal),
+        Err(refusal) => unfinished(refusal),
     }
 }
 
@@ -183,7 +190,7 @@ fn run_script<K: Rack, O: Sink>(
         number += 1;
         left = behind;
     }
-    end_script(alloc, session, rack, out)
+    end_script(session, rack, out)
 }
 
 /// Runs the script of this name over layers, from one to eight, of which the first is the strongest.

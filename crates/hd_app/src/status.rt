@@ -55,6 +55,19 @@ pub enum Status {
     NoMemory,
 }
 
+impl Place {
+    /// A place that shares the name of this one.
+    pub fn copy(&self) -> Result<Place, AllocError>
+        ensures { IfOk result (λ copied. copied ≡ self.now) }
+    {
+        Ok(match self {
+            Place::Words => Place::Words,
+            Place::File(name) => Place::File(name.copy()?),
+            Place::Line(name, line) => Place::Line(name.copy()?, *line),
+        })
+    }
+}
+
 impl<T: Drop> From<AllocFailed<T>> for Status {
     ghost from_gives = { λ _ status. status ≡ NoMemory };
 
@@ -78,6 +91,37 @@ impl Status {
             Status::WriteFault => 6,
             Status::NoMemory => 7,
         }
+    }
+
+    /// An ending that shares the names of this one.
+    pub fn copy(&self) -> Result<Status, AllocError>
+        ensures { IfOk result (λ copied. copied ≡ self.now) }
+    {
+        Ok(match self {
+            Status::Done => Status::Done,
+            Status::Usage => Status::Usage,
+            Status::Layer { file, line, why } => Status::Layer {
+                file: file.copy()?,
+                line: *line,
+                why: *why,
+            },
+            Status::Script { line, why } => Status::Script {
+                line: *line,
+                why: *why,
+            },
+            Status::Limit {
+                place,
+                which,
+                count,
+            } => Status::Limit {
+                place: place.copy()?,
+                which: *which,
+                count: *count,
+            },
+            Status::ReadFault { name } => Status::ReadFault { name: name.copy()? },
+            Status::WriteFault => Status::WriteFault,
+            Status::NoMemory => Status::NoMemory,
+        })
     }
 
     /// The line that tells a refusal, with its line feed. The other endings have none.

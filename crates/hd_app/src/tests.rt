@@ -3,7 +3,7 @@
 ghost use Rattle.std.specs.Prelude.{◌≤◌};
 
 use crate::meshes::root_draws;
-use crate::status::Status;
+use crate::status::{Place, Status};
 use crate::top::top_plain;
 use hd_io::{MemoryRack, MemoryShelf, MemorySink};
 use hd_num::List;
@@ -391,6 +391,23 @@ fn each_call_fails_in_turn(rt: HostRuntime) -> Result<(), Fail> {
 }
 
 #[test]
+fn a_copy_tells_the_same(rt: HostRuntime) -> Result<(), Fail> {
+    let alloc = rt.alloc();
+    let name = List::of(alloc, Vec::from_slice(alloc, b"a".as_slice())?)?;
+    let limit = Status::Limit {
+        place: Place::Line(name, 7),
+        which: Which::Depth,
+        count: 32,
+    };
+    assert_eq!(rt;
+        limit.copy()?.fault_line(alloc)?.as_slice(),
+        b"fault limit depth 32 at a line 7\n".as_slice()
+    );
+    assert_eq!(rt; Status::Usage.copy()?.number(), 1);
+    Ok(())
+}
+
+#[test]
 fn statuses_have_their_numbers(rt: HostRuntime) -> Result<(), Fail> {
     let name = List::of(rt.alloc(), Vec::from_slice(rt.alloc(), b"a".as_slice())?)?;
     assert_eq!(rt; Status::Done.number(), 0);
@@ -414,7 +431,7 @@ fn statuses_have_their_numbers(rt: HostRuntime) -> Result<(), Fail> {
     );
     assert_eq!(rt;
         Status::Limit {
-            place: crate::Place::File(name.copy()?),
+            place: Place::File(name.copy()?),
             which: Which::Bytes,
             count: 1
         }

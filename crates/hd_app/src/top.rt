@@ -134,6 +134,9 @@ pub fn top_plain<S: Shelf, R: Rack, O: Sink>(
     ensures read_fault_line { IsReadFault result → Wrote (refused result).acts
         (outside (R.held rack.old) (R.faults rack.old) (O.held out.old) (O.faults out.old))
         (outside (R.held rack.new) (R.faults rack.new) (O.held out.new) (O.faults out.new)) }
+    ensures read_fault_alone { IsReadFault result → NoFault
+        (outside (R.held rack.old) (R.faults rack.old) (O.held out.old) (O.faults out.old))
+        (outside (R.held rack.new) (R.faults rack.new) (O.held out.new) (O.faults out.new)) }
     ensures write_fault { result ≡ Status.WriteFault
         → Rose (R.faults rack.old) (R.faults rack.new) ⊎ Rose (O.faults out.old) (O.faults out.new) }
     ensures cut { IsBrokenOff result → IfSome (S.files shelf.old) (λ files. BrokeOff (command (map string_bytes words.now)) files

@@ -1,3 +1,4 @@
+pub mod Causes
 pub mod ComposedKinds
 pub mod LawProofs
 pub mod RowPaths

@@ -1,5 +1,5 @@
 -- What the answer to a command says.
-use Rattle.std.specs.Prelude.{◌≡◌, ◌⊎◌, List, [], Ok, Err}
+use Rattle.std.specs.Prelude.{◌≡◌, ◌⊎◌, List, [], Result, Ok, Err}
 use Rattle.hd_io.specs.Acts.{Act, Outside, Wrote, WroteCut, NoFault}
 use Rattle.hd_io.specs.Causes.{Rose}
 use Rattle.hd_io.specs.declared.fault.OutsideFault.{OutsideFault}
@@ -7,26 +7,38 @@ use Rattle.hd_io.specs.declared.fault.OutsideFault.TheVariants as outside
 use Rattle.hd_session.specs.declared.refusal.Refusal.{Refusal}
 use Rattle.hd_session.specs.declared.refusal.Refusal.TheVariants.{Script, Limit, WriteFault, NoMemory}
 use Rattle.hd_session.specs.States.{State}
-use Rattle.hd_session.specs.Steps.{Step}
+use Rattle.hd_session.specs.Steps.{Done, Step}
 
--- the step was done: its state stands, its acts were made whole, and no object failed
-pub record Does (step : Step) (after : State) (before now : Outside) : Type 0 where
+-- a step was done: its state stands, its acts were made whole, and no object failed
+pub record Does {E : Type 0} (step : Result Done E) (after : State) (before now : Outside) : Type 0 where
   pub acts : List Act
   pub is : step ≡ Ok (after, acts)
   pub written : Wrote acts before now
   pub faults : NoFault before now
 
 -- the acts of a step
-abbrev pub acts_of : Step → List Act
+abbrev pub acts_of : {E : Type 0} → Result Done E → List Act
 acts_of (Ok done) = done.1
 acts_of (Err refusal) = []
 
--- why a step was not done: it is refused, and nothing was written; a write failed; or memory ran out
+-- a step was not done, since it is refused, and nothing was written
+abbrev pub IsRefused : {E : Type 0} → Result Done E → E → (before now : Outside) → Type 0
+IsRefused step why before now = (step ≡ Err why) × (now ≡ before)
+
+-- a step was broken off, since a write failed
+abbrev pub FailsToWrite : {E : Type 0} → Result Done E → (before now : Outside) → Type 0
+FailsToWrite step before now = WroteCut (acts_of step) before now × (Rose before.rack_faults now.rack_faults ⊎ Rose before.sink_faults now.sink_faults)
+
+-- a step was broken off, since memory ran out
+abbrev pub WantsMemory : {E : Type 0} → Result Done E → (before now : Outside) → Type 0
+WantsMemory step before now = WroteCut (acts_of step) before now × NoFault before now
+
+-- why the step of a command was not done
 abbrev pub Refuses : Step → (before now : Outside) → Refusal → Type 0
-Refuses step before now (Script why) = (step ≡ Err (Script why)) × (now ≡ before)
-Refuses step before now (Limit which) = (step ≡ Err (Limit which)) × (now ≡ before)
-Refuses step before now WriteFault = WroteCut (acts_of step) before now × (Rose before.rack_faults now.rack_faults ⊎ Rose before.sink_faults now.sink_faults)
-Refuses step before now NoMemory = WroteCut (acts_of step) before now × NoFault before now
+Refuses step before now (Script why) = IsRefused step (Script why) before now
+Refuses step before now (Limit which) = IsRefused step (Limit which) before now
+Refuses step before now WriteFault = FailsToWrite step before now
+Refuses step before now NoMemory = WantsMemory step before now
 
 -- the refusal of a command whose writing ended so
 abbrev pub write_refusal : OutsideFault → Refusal

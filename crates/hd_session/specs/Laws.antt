@@ -1,11 +1,12 @@
 -- What follows from the definitions.
 use Rattle.std.specs.Prelude.{◌≡◌, [], Bool, true, false, Err}
 use Rattle.hd_io.specs.Acts.{Outside, Adds}
+use Rattle.hd_usda.specs.declared.limits.Which.TheVariants.{Prims, Depth}
 use Rattle.hd_script.specs.declared.command.Command as commands
 use Rattle.hd_script.specs.declared.command.Command.TheVariants as command
-use Rattle.hd_session.specs.declared.refusal.ScriptWhy.TheVariants.{Later}
+use Rattle.hd_session.specs.declared.refusal.ScriptWhy.TheVariants.{NoPrim, PrimThere, UnderItself, NoLayer, Later}
 use Rattle.hd_session.specs.declared.refusal.Refusal.{Refusal}
-use Rattle.hd_session.specs.declared.refusal.Refusal.TheVariants.{Script}
+use Rattle.hd_session.specs.declared.refusal.Refusal.TheVariants.{Script, Limit, WriteFault, NoMemory}
 use Rattle.hd_session.specs.States.{State}
 use Rattle.hd_session.specs.Steps.{Step, step}
 use Rattle.hd_session.specs.Answers.{Refuses}
@@ -27,6 +28,24 @@ is_served command.Wait = false
 -- another command is refused as one that comes later, in any state
 abbrev pub OthersAreLater : Type 0
 OthersAreLater = (s : State) (given : commands.Command) → is_served given ≡ false → step s given ≡ Err (Script Later)
+
+-- the causes that steps have: those of edits, a layer that is not there, and a command that comes later
+abbrev pub is_own_cause : Refusal → Bool
+is_own_cause (Script NoPrim) = true
+is_own_cause (Script PrimThere) = true
+is_own_cause (Script UnderItself) = true
+is_own_cause (Script NoLayer) = true
+is_own_cause (Script Later) = true
+is_own_cause (Script why) = false
+is_own_cause (Limit Prims) = true
+is_own_cause (Limit Depth) = true
+is_own_cause (Limit which) = false
+is_own_cause WriteFault = false
+is_own_cause NoMemory = false
+
+-- a step is refused by such a cause alone: that a write fails, or memory runs out, is no part of it
+abbrev pub StepsHaveOwnCauses : Type 0
+StepsHaveOwnCauses = (s : State) (given : commands.Command) (why : Refusal) → step s given ≡ Err why → is_own_cause why ≡ true
 
 -- where the step is a refusal nothing is written, whichever refusal is answered
 abbrev pub RefusedWriteNothing : Type 0

@@ -14,9 +14,13 @@ use Rattle.hd_session.specs.declared.refusal.Refusal.TheVariants.{Script, Limit,
 use Rattle.hd_session.specs.Rows.{row_count}
 use Rattle.hd_session.specs.States.{State}
 
--- the state after a command with the acts of the command, or the refusal
+-- the state after a command, and the acts of the command
+abbrev pub Done : Type 0
+Done = State × List Act
+
+-- what a command does, or why it is refused
 abbrev pub Step : Type 0
-Step = Result (State × List Act) Refusal
+Step = Result Done Refusal
 
 -- the refusal of an edit
 abbrev pub edit_refusal : EditFault → Refusal
@@ -64,5 +68,9 @@ step s command.Stop = Err (Script Later)
 step s command.Wait = Err (Script Later)
 
 -- what the end of the script does: nothing, where no frame runs
+abbrev pub at_end : State → Done
+at_end s = (s, [])
+
+-- the end as a step, which is never refused
 abbrev pub finish : State → Step
-finish s = Ok (s, [])
+finish s = Ok (at_end s)

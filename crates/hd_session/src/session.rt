@@ -115,6 +115,10 @@ impl Session {
     }
 
     /// Does what the end of the script asks for: nothing, where no frame runs.
+    ///
+    /// # Errors
+    ///
+    /// A fault of the rack or the sink, or want of memory. The session is spent then.
     pub fn finish<K: Rack, O: Sink>(&mut self, rack: &mut K, out: &mut O) -> Result<(), Refusal>
         requires unspent { self.old.is_spent ≡ false }
         ensures done { OnOk result (Does (finish self.old.state) self.new.state

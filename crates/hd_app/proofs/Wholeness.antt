@@ -1,0 +1,98 @@
+-- No outcome is broken off.
+use Rattle.std.proofs.Common.{◌≡◌, ℕ, length, Bool, true, false, cond, if◌then◌else◌, List, [], ◌∷◌, Option, Some, None, Ok, Err}
+use Rattle.std.specs.Prelude.{Result, nat_lt}
+use Rattle.hd_usda.specs.Cursors.{Fault}
+use Rattle.hd_usda.specs.Layers.{reads}
+use Rattle.hd_usda.specs.Limits.{limit_of}
+use Rattle.hd_usda.specs.declared.fault.LayerWhy.{LayerWhy}
+use Rattle.hd_usda.specs.declared.fault.LayerWhy.TheVariants as why
+use Rattle.hd_usda.specs.declared.limits.Which.TheVariants.{Layers, Bytes}
+use Rattle.hd_usda.specs.declared.spec.LayerSpec.{LayerSpec}
+use Rattle.hd_io.specs.Files.{FileMap, bytes_of}
+use Rattle.hd_session.specs.States.{opened}
+use Rattle.hd_app.specs.declared.status.Status.{Status}
+use Rattle.hd_app.specs.declared.status.Status.TheVariants.{Done, Usage, Layer, Script, Limit, ReadFault, WriteFault, NoMemory}
+use Rattle.hd_app.specs.declared.status.Place.TheVariants.{Words, File, Line}
+use Rattle.hd_app.specs.Commands.{Program, draw, step, command}
+use Rattle.hd_app.specs.Endings.{IsBrokenOff}
+use Rattle.hd_app.specs.Laws.{OutcomesEndWhole}
+use Rattle.hd_app.specs.Outcomes.{refusal_at, layer_spelled, layer_of_bytes, layer_of_file, layer_in, drawn_if_read, with_layer, layers_in, script_of_file, script_in, stepped_if_read, stepped, outcome_of}
+use Rattle.hd_app.specs.Outside.{byte_limit}
+use Rattle.hd_app.specs.Refusing.{Outcome, refused}
+use Rattle.hd_app.specs.Scripts.{lines_of, outcome_of_lines}
+use Rattle.hd_app.proofs.ScriptLemmas.{EndsScript, script_ends}
+
+-- where a part of a run is refused, its refusal tells itself
+abbrev EndsWell : {T : Type 0} → Result T Status → Type 0
+EndsWell (Ok value) = Unit {0}
+EndsWell (Err status) = ¬ IsBrokenOff status
+
+refusal_well : (name : List ℕ) (number : ℕ) (cause : LayerWhy) → ¬ IsBrokenOff (refusal_at name number cause)
+refusal_well name number (why.Limit which) is = is
+refusal_well name number why.Header is = is
+refusal_well name number why.Syntax is = is
+refusal_well name number why.NotUtf8 is = is
+refusal_well name number why.Twice is = is
+refusal_well name number why.LeftOut is = is
+refusal_well name number why.Fraction is = is
+
+either : {T : Type 0} (b : Bool) (x y : Result T Status) → EndsWell x → EndsWell y → EndsWell (if b then x else y)
+either true x y own other = own
+either false x y own other = other
+
+spelled_well : (name : List ℕ) (read : Result LayerSpec Fault) → EndsWell (layer_spelled name read)
+spelled_well name (Ok layer) = tt
+spelled_well name (Err fault) = refusal_well name fault.line fault.why
+
+file_well : (name : List ℕ) (file : Option (List ℕ)) → EndsWell (layer_of_file name file)
+file_well name None = λ is. is
+file_well name (Some bytes) =
+    either (nat_lt byte_limit (length bytes)) (Err (Limit (File name) Bytes byte_limit)) (layer_spelled name (reads bytes)) (λ is. is) (spelled_well name (reads bytes))
+
+more_well : (one : Result LayerSpec Status) (more : Result (List LayerSpec) Status) → EndsWell one → EndsWell more → EndsWell (with_layer one more)
+more_well (Ok layer) (Ok layers) own other = tt
+more_well (Ok layer) (Err status) own other = other
+more_well (Err status) more own other = own
+
+layers_well : (files : FileMap) (names : List (List ℕ)) → EndsWell (layers_in files names)
+layers_well files [] = tt
+layers_well files (name ∷ names) = more_well (layer_in files name) (layers_in files names) (file_well name (bytes_of files name)) (layers_well files names)
+
+script_well : (name : List ℕ) (file : Option (List ℕ)) → EndsWell (script_of_file name file)
+script_well name None = λ is. is
+script_well name (Some bytes) = either (nat_lt byte_limit (length bytes)) (Err (Limit (File name) Bytes byte_limit)) (Ok bytes) (λ is. is) tt
+
+lines_well : (name : List ℕ) (status : Status) → EndsScript name status → ¬ IsBrokenOff status
+lines_well name WriteFault ends is = ends
+lines_well name NoMemory ends is = ends
+lines_well name Done ends is = is
+lines_well name Usage ends is = is
+lines_well name (Layer file line cause) ends is = is
+lines_well name (Script line cause) ends is = is
+lines_well name (Limit place which count) ends is = is
+lines_well name (ReadFault file) ends is = is
+
+drawn_well : (out : List ℕ) (read : Result LayerSpec Status) → EndsWell read → ¬ IsBrokenOff (drawn_if_read out read).ending
+drawn_well out (Ok layer) own = λ is. is
+drawn_well out (Err status) own = own
+
+stepped_well : (name : List ℕ) (layers : Result (List LayerSpec) Status) (script : Result (List ℕ) Status) → EndsWell layers → EndsWell script
+    → ¬ IsBrokenOff (stepped_if_read name layers script).ending
+stepped_well name (Ok layers) (Ok script) own other =
+    lines_well name (outcome_of_lines name 1 (opened layers) (lines_of script)).ending (script_ends name 1 (opened layers) (lines_of script))
+stepped_well name (Ok layers) (Err status) own other = other
+stepped_well name (Err status) script own other = own
+
+either_ending : (b : Bool) (x y : Outcome) → ¬ IsBrokenOff x.ending → ¬ IsBrokenOff y.ending → ¬ IsBrokenOff (if b then x else y).ending
+either_ending true x y own other = own
+either_ending false x y own other = other
+
+of_program : (files : FileMap) (program : Option Program) → ¬ IsBrokenOff (outcome_of files program).ending
+of_program files None = λ is. is
+of_program files (Some (draw layer out)) = drawn_well out (layer_in files layer) (file_well layer (bytes_of files layer))
+of_program files (Some (step layers script)) =
+    either_ending (nat_lt (limit_of Layers) (length layers)) (refused (Limit Words Layers (limit_of Layers))) (stepped_if_read script (layers_in files layers) (script_in files script))
+    (λ is. is) (stepped_well script (layers_in files layers) (script_in files script) (layers_well files layers) (script_well script (bytes_of files script)))
+
+pub outcomes_end_whole : OutcomesEndWhole
+outcomes_end_whole words files = of_program files (command words)
