@@ -1,7 +1,7 @@
 -- A file and a line that are broken off.
 use Rattle.std.proofs.Common.{◌≡◌, ℕ, ◌∙◌, List, [], ◌∷◌, take, Option, refl, inl, inr}
 use Rattle.hd_io.specs.Files.{FileList}
-use Rattle.hd_io.specs.Acts.{file, line, Outside, outside, WroteCut}
+use Rattle.hd_io.specs.Acts.{file, line, outside, WroteCut}
 use Rattle.hd_io.specs.Writing.{with_whole, CutFile, CutLine}
 use Rattle.hd_io.proofs.Cuts.{nothing_added}
 

@@ -1,8 +1,8 @@
 -- How the files of a command are read, one after the other.
-use Rattle.std.proofs.Common.{◌≡◌, ◌⊎◌, ℕ, zero, suc, ◌+◌, ◌<◌, ◌≤◌, ◌∙◌, true, List, [], ◌∷◌, ◌++◌, length, take, drop, get_or, cond, Option, Some, None, Ok, Err, refl, sym, ap, subst, inl, inr, false, length-append, arith}
+use Rattle.std.proofs.Common.{◌≡◌, ℕ, zero, suc, ◌+◌, ◌<◌, ◌≤◌, ◌∙◌, true, List, [], ◌∷◌, ◌++◌, length, take, drop, get_or, Option, Some, None, Ok, Err, refl, sym, ap, subst, inl, inr, false, length-append, arith}
 use Rattle.std.specs.Prelude.{Result, All, Contains, IfSome, IsTrue, map, max, IsOk, is_ok, slice_get, nat_lt}
 use Rattle.std.proofs.lemmas.Bool.Decides.{nat_tests}
-use Rattle.std.proofs.lemmas.List.{append-nil, append_assoc, take-append-le, get_or_append_left, get_or-map, length-map}
+use Rattle.std.proofs.lemmas.List.{append_assoc, take-append-le, get_or_append_left, get_or-map, length-map}
 use Rattle.std.proofs.lemmas.List.Elements.{All-nil, All-cons, All-append, All-head, All-rest, Contains-get_or, Contains-push, Contains-append_left}
 use Rattle.std.proofs.lemmas.Option.{slice_get_within, slice_get-get_or, get_or_from_slice_get}
 use Rattle.std.proofs.Math.Seq.{drop-cons, take-suc, take-append_seam, get_or-append_seam}
@@ -18,11 +18,11 @@ use Rattle.hd_app.specs.declared.status.Status.{Status}
 use Rattle.hd_app.specs.declared.status.Status.TheVariants.{Done, Usage, Layer, Script, Limit, ReadFault, WriteFault, NoMemory}
 use Rattle.hd_app.specs.declared.status.Place.{Place}
 use Rattle.hd_app.specs.declared.status.Place.TheVariants.{Words, File, Line}
-use Rattle.hd_app.specs.Commands.{Program, draw, step, layer_names, file_names}
+use Rattle.hd_app.specs.Commands.{draw, step}
 use Rattle.hd_app.specs.Outcomes.{outcome_of, drawn_if_read, layer_in, layers_in, with_layer, script_in, stepped, stepped_if_read}
 use Rattle.hd_app.specs.Outside.{byte_limit}
 use Rattle.hd_app.specs.Refusing.{refused}
-use Rattle.hd_app.specs.Runs.{ShelfState, FailedAt, PassesLimit, SpellLayers, IsReached, RefusesLayer, RefusesOneLayer, RefusesLayers, RefusesScript, TellsRefusal, RefusesFiles}
+use Rattle.hd_app.specs.Runs.{ShelfState, FailedAt, PassesLimit, SpellLayers, IsReached, RefusesLayer, RefusesLayers, RefusesScript, RefusesFiles}
 use Rattle.hd_app.specs.Scripts.{lines_of, outcome_of_lines}
 
 -- layers that were read, and what is to be read behind them

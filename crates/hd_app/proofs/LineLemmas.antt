@@ -1,7 +1,6 @@
 -- How the lines of a script end it.
-use Rattle.std.proofs.Common.{◌≡◌, ◌⊎◌, ℕ, suc, ◌+◌, ◌<◌, ◌≤◌, ◌∙◌, length, arith, List, [], ◌∷◌, Option, Some, None, Ok, Err, refl, sym, ap, subst, inl, inr}
+use Rattle.std.proofs.Common.{◌≡◌, ◌⊎◌, ℕ, suc, ◌+◌, ◌<◌, ◌≤◌, ◌∙◌, length, arith, List, ◌∷◌, Option, Some, None, Ok, Err, refl, sym, ap, subst, inl, inr}
 use Rattle.std.specs.Prelude.{IfSome, Result}
-use Rattle.hd_io.specs.Causes.{Rose}
 use Rattle.hd_io.specs.Acts.{Act, Outside, outside, Wrote, WroteCut, NoFault}
 use Rattle.hd_io.specs.Files.{FileList}
 use Rattle.hd_io.proofs.Cuts.{none_written}

@@ -10,7 +10,7 @@ use Rattle.hd_picture.specs.Limits.{IsWithin, IsPointWithin, IsTriWithin}
 use Rattle.hd_usda.specs.declared.spec.PrimSpec.{PrimSpec}
 use Rattle.hd_usda.specs.declared.spec.LayerSpec.{LayerSpec}
 use Rattle.hd_app.specs.Fans.{takes_all, faces, fan}
-use Rattle.hd_app.specs.RootDraws.{white, is_near, if_near, named_point, point_at, triangle_of, triangle, face_triangles, mesh_triangles, value_named, numbers_in, triples_in, prim_triangles, is_root_mesh, root_draws}
+use Rattle.hd_app.specs.RootDraws.{white, is_near, if_near, named_point, point_at, triangle_of, triangle, face_triangles, value_named, numbers_in, triples_in, prim_triangles, is_root_mesh, root_draws}
 
 kept_in_front : {Y : Type 0} (P : Y → Type 0) (o : Option Y) (rest : List Y) → ((y : Y) → o ≡ Some y → P y) → All P rest → All P (cons_option o rest)
 kept_in_front P None rest each all = all

@@ -1,5 +1,5 @@
 -- How the parts of a run make the run.
-use Rattle.std.proofs.Common.{◌≡◌, ◌⊎◌, ℕ, ◌∙◌, List, [], ◌∷◌, Option, Some, None, Ok, Err, refl, sym, ap, subst, inl, inr}
+use Rattle.std.proofs.Common.{◌≡◌, ◌⊎◌, ℕ, ◌∙◌, List, [], ◌∷◌, Option, Some, None, Ok, refl, sym, ap, subst, inl, inr}
 use Rattle.std.proofs.Math.Seq.{take-nil}
 use Rattle.std.specs.Prelude.{IfSome}
 use Rattle.hd_usda.specs.declared.spec.LayerSpec.{LayerSpec}
@@ -12,7 +12,7 @@ use Rattle.hd_app.specs.Commands.{Program, draw}
 use Rattle.hd_app.specs.Endings.{Ends, IsReadFault}
 use Rattle.hd_app.specs.Outcomes.{outcome_of, drawn, drawn_if_read, layer_in}
 use Rattle.hd_app.specs.Refusing.{Outcome, refused}
-use Rattle.hd_app.specs.Runs.{ShelfState, TellsRefusal, RefusesFiles, IsAnswerTo, Runs}
+use Rattle.hd_app.specs.Runs.{ShelfState, RefusesFiles, IsAnswerTo, Runs}
 use Rattle.hd_io.proofs.Cuts.{cut_nothing}
 
 -- of a line without bytes nothing can be written

@@ -1,12 +1,12 @@
 -- How a script can end.
-use Rattle.std.proofs.Common.{◌≡◌, ℕ, zero, suc, ◌+◌, ◌-◌, ◌<◌, ◌≤◌, ◌∙◌, Bool, true, false, cond, List, [], ◌∷◌, ◌++◌, length, take, drop, Option, Some, None, Ok, Err, refl, sym, ap, subst, arith, length-take}
-use Rattle.std.specs.Prelude.{Result, Contains, IfSome, IsSome, codes, nat_lt, slice_index_or}
+use Rattle.std.proofs.Common.{◌≡◌, ℕ, ◌+◌, ◌-◌, ◌≤◌, Bool, true, false, cond, List, [], ◌∷◌, ◌++◌, length, take, Option, Some, None, Ok, Err, refl, sym, ap, subst, arith, length-take}
+use Rattle.std.specs.Prelude.{Result, Contains, IfSome, codes, nat_lt, slice_index_or}
 use Rattle.std.specs.Str.{bytes_eq}
 use Rattle.std.proofs.lemmas.Bool.Decides.{nat_tests}
 use Rattle.std.proofs.lemmas.List.Elements.{Contains-push}
 use Rattle.hd_usda.specs.declared.spec.LayerSpec.{LayerSpec}
 use Rattle.hd_usda.specs.Limits.{limit_of}
-use Rattle.hd_io.specs.Acts.{Act, Outside}
+use Rattle.hd_io.specs.Acts.{Outside}
 use Rattle.hd_script.specs.declared.command.Command.{Command}
 use Rattle.hd_script.specs.declared.fault.LineFault.{LineFault}
 use Rattle.hd_script.specs.declared.fault.LineFault.TheVariants as fault
@@ -21,13 +21,13 @@ use Rattle.hd_session.proofs.Causes.{have_own_causes}
 use Rattle.hd_app.specs.declared.status.Status.{Status}
 use Rattle.hd_app.specs.declared.status.Status.TheVariants.{Done, Usage, Layer, Script, Limit, ReadFault, WriteFault, NoMemory}
 use Rattle.hd_app.specs.declared.status.Place.TheVariants.{Words, File, Line}
-use Rattle.hd_app.specs.Commands.{Program, draw, step, draw_of, step_of, file_names}
+use Rattle.hd_app.specs.Commands.{Program, draw, step, draw_of, step_of}
 use Rattle.hd_app.specs.Commands as program
 use Rattle.hd_app.specs.Endings.{Ends, IsReadFault}
 use Rattle.hd_app.specs.Outcomes.{stepped}
-use Rattle.hd_app.specs.Refusing.{Outcome, refused}
+use Rattle.hd_app.specs.Refusing.{Outcome}
 use Rattle.hd_app.specs.Runs.{ShelfState, IsAnswerTo, Runs}
-use Rattle.hd_app.specs.Scripts.{LineStep, line_refusal, command_refusal, line_step, step_of_line, preceded, continued, ended, lines_of, outcome_of_lines}
+use Rattle.hd_app.specs.Scripts.{LineStep, line_refusal, line_step, step_of_line, continued, lines_of, outcome_of_lines}
 use Rattle.hd_app.proofs.RunLemmas.{ran_runs}
 
 -- the endings of a script: it was done, or one of its lines is refused

@@ -1,5 +1,5 @@
 -- No outcome is broken off.
-use Rattle.std.proofs.Common.{◌≡◌, ℕ, length, Bool, true, false, cond, if◌then◌else◌, List, [], ◌∷◌, Option, Some, None, Ok, Err}
+use Rattle.std.proofs.Common.{ℕ, length, Bool, true, false, if◌then◌else◌, List, [], ◌∷◌, Option, Some, None, Ok, Err}
 use Rattle.std.specs.Prelude.{Result, nat_lt}
 use Rattle.hd_usda.specs.Cursors.{Fault}
 use Rattle.hd_usda.specs.Layers.{reads}
@@ -12,11 +12,11 @@ use Rattle.hd_io.specs.Files.{FileMap, bytes_of}
 use Rattle.hd_session.specs.States.{opened}
 use Rattle.hd_app.specs.declared.status.Status.{Status}
 use Rattle.hd_app.specs.declared.status.Status.TheVariants.{Done, Usage, Layer, Script, Limit, ReadFault, WriteFault, NoMemory}
-use Rattle.hd_app.specs.declared.status.Place.TheVariants.{Words, File, Line}
+use Rattle.hd_app.specs.declared.status.Place.TheVariants.{Words, File}
 use Rattle.hd_app.specs.Commands.{Program, draw, step, command}
 use Rattle.hd_app.specs.Endings.{IsBrokenOff}
 use Rattle.hd_app.specs.Laws.{OutcomesEndWhole}
-use Rattle.hd_app.specs.Outcomes.{refusal_at, layer_spelled, layer_of_bytes, layer_of_file, layer_in, drawn_if_read, with_layer, layers_in, script_of_file, script_in, stepped_if_read, stepped, outcome_of}
+use Rattle.hd_app.specs.Outcomes.{refusal_at, layer_spelled, layer_of_file, layer_in, drawn_if_read, with_layer, layers_in, script_of_file, script_in, stepped_if_read, outcome_of}
 use Rattle.hd_app.specs.Outside.{byte_limit}
 use Rattle.hd_app.specs.Refusing.{Outcome, refused}
 use Rattle.hd_app.specs.Scripts.{lines_of, outcome_of_lines}

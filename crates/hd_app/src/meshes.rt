@@ -1,6 +1,6 @@
 //! The triangles that the meshes at the root of a layer draw.
 
-ghost use Rattle.std.specs.Prelude.{◌≡◌, true, ◌++◌, ◌-◌, ◌+◌, ◌≤◌, ◌<◌, ◌≤ℤ◌, pos, nat_abs, length, take, drop, map, flat_map, IfOk, OnOk};
+ghost use Rattle.std.specs.Prelude.{◌≡◌, true, ◌++◌, ◌-◌, ◌+◌, ◌≤◌, ◌<◌, ◌≤ℤ◌, pos, nat_abs, length, take, drop, flat_map, IfOk, OnOk};
 ghost use Rattle.std.specs.Option.{option_copied};
 ghost use Rattle.hd_app.specs.Fans.{takes_all, faces, fan_corners};
 ghost use Rattle.hd_app.specs.RootDraws.{is_near, if_near, named_point, point_at, triangle, face_triangles, mesh_triangles, value_named, numbers_in, triples_in, prim_triangles, is_root_mesh, root_draws};

@@ -1,6 +1,6 @@
 //! What a command writes: its picture and the line of its frame, or the line of its refusal.
 
-ghost use Rattle.std.specs.Prelude.{◌≡◌, [], ◌∷◌, false, ℕ, List, Option, IfOk, IfErr, OnOk, OnErr};
+ghost use Rattle.std.specs.Prelude.{◌≡◌, [], ◌∷◌, false, ℕ, Option, IfOk, IfErr, OnOk, OnErr};
 ghost use Rattle.hd_io.specs.Causes.{HasCause};
 ghost use Rattle.hd_io.specs.Files.{FileList};
 ghost use Rattle.hd_io.specs.Acts.{outside, file, line, Wrote, WroteCut, WriteCause, NoFault};

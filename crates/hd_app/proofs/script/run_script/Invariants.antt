@@ -1,4 +1,4 @@
-use Rattle.std.proofs.Common.{◌≡◌, ◌+◌, ◌≤◌, ℕ, false, List, length, Option, Some, None, option_copied}
+use Rattle.std.proofs.Common.{◌≡◌, ◌+◌, ◌≤◌, false, option_copied}
 use Rattle.hd_io.specs.Acts.{outside}
 use Rattle.hd_app.specs.Lines.{lines_left}
 use Rattle.hd_app.specs.Outside.{byte_limit}

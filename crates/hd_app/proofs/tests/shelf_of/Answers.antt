@@ -1,4 +1,4 @@
-use Rattle.std.proofs.Common.{◌≡◌, ◌∙◌, ℕ, List, String, Global, Vec, [], ◌∷◌, get_or, map, string_bytes, refl, ap}
+use Rattle.std.proofs.Common.{◌∙◌, ℕ, List, String, Global, Vec, [], ◌∷◌, get_or, map, string_bytes, refl, ap}
 use Rattle.hd_app.proofs.NameLemmas.{differ_by_first, first_bytes}
 use Rattle.hd_app.proofs.tests.shelf_of.Goals as goal
 
