@@ -7,6 +7,9 @@ use std::alloc::AllocError;
 use std::env;
 use std::process::ExitCode;
 
+#[cfg(test)]
+mod tests;
+
 /// The words behind the program's name. Words that are no text make no command, and so does no word.
 fn words(rt: &HostRuntime) -> Result<Vec<String>, AllocError> {
     let mut words = Vec::new(rt.alloc());
@@ -18,13 +21,17 @@ fn words(rt: &HostRuntime) -> Result<Vec<String>, AllocError> {
     Ok(words)
 }
 
-fn main(rt: HostRuntime) -> ExitCode {
-    let Ok(words) = words(&rt) else {
-        return ExitCode::from(7);
-    };
+/// Does what the words say over the system's files and its standard output, and answers what the program ends with.
+fn run(rt: HostRuntime, words: &[String]) -> u8 {
     let mut shelf = FileShelf::new(rt, rt.alloc());
     let mut rack = FileRack::new(rt);
     let mut out = OutSink::new(rt);
-    let status = top_plain(rt.alloc(), &words, &mut shelf, &mut rack, &mut out);
-    ExitCode::from(status.number())
+    top_plain(rt.alloc(), words, &mut shelf, &mut rack, &mut out).number()
+}
+
+fn main(rt: HostRuntime) -> ExitCode {
+    match words(&rt) {
+        Ok(words) => ExitCode::from(run(rt, &words)),
+        Err(_) => ExitCode::from(7),
+    }
 }
