@@ -18,7 +18,7 @@ use Rattle.hd_app.specs.declared.status.Status.{Status}
 use Rattle.hd_app.specs.declared.status.Status.TheVariants.{Done, Usage, Layer, Script, Limit, ReadFault, WriteFault, NoMemory}
 use Rattle.hd_app.specs.declared.status.Place.{Place}
 use Rattle.hd_app.specs.declared.status.Place.TheVariants.{Words, File, Line}
-use Rattle.hd_app.specs.Commands.{draw, step}
+use Rattle.hd_app.specs.Commands.{draw, step, HasFewLayers}
 use Rattle.hd_app.specs.Outcomes.{outcome_of, drawn_if_read, layer_in, layers_in, with_layer, script_in, stepped, stepped_if_read}
 use Rattle.hd_app.specs.Outside.{byte_limit}
 use Rattle.hd_app.specs.Refusing.{refused}
@@ -174,8 +174,13 @@ none_before : (told : Option FileMap) (names : List (List ℕ)) → IfSome told 
 none_before None names = tt
 none_before (Some files) names = All-nil (λ (n : List ℕ). IsOk (layer_in files n))
 
+-- a command that draws has one layer
+pub draws_one : (name out : List ℕ) → HasFewLayers (draw name out)
+draws_one name out = omega arith
+
 reached_first : (name out : List ℕ) (told : Option FileMap) (file : List ℕ) → file ≡ name → IsReached (draw name out) told file
 reached_first name out told file is = record {
+  few = draws_one name out;
   place = 0;
   named = ap (λ (n : List ℕ). Some n) (sym is);
   before = none_before told (name ∷ []);
@@ -194,17 +199,17 @@ pub layer_refuses : (name out : List ℕ) (before now : ShelfState) (status : St
 layer_refuses name out before now (ReadFault file) why = (reached_first name out before.files file why.0, failed_named name file before now why.0 why.1)
 layer_refuses name out before now (Layer file line cause) why = record {
   faults = why.0;
-  answer = named_first name file why.1;
+  answer = (draws_one name out, named_first name file why.1);
   told = told_refused name out (Layer file line cause) before.files why.2;
 }
 layer_refuses name out before now (Limit (File file) which count) why = record {
   faults = why.0;
-  answer = (named_first name file why.1.0, why.1.1, why.1.2, why.1.3);
+  answer = (draws_one name out, named_first name file why.1.0, why.1.1, why.1.2, why.1.3);
   told = told_refused name out (Limit (File file) which count) before.files why.2;
 }
 layer_refuses name out before now (Limit (Line file line) which count) why = record {
   faults = why.0;
-  answer = (named_first name file why.1.0, why.1.1);
+  answer = (draws_one name out, named_first name file why.1.0, why.1.1);
   told = told_refused name out (Limit (Line file line) which count) before.files why.2;
 }
 layer_refuses name out before now (Limit Words which count) why = absurd why.1
@@ -243,9 +248,10 @@ slice_get_joined layers more place name named =
     slice_get-get_or (layers ++ more) place [] (omega (arith, lt, length-append layers more))
     ∙ ap (λ (n : List ℕ). Some n) (get_or_append_left layers more [] place lt ∙ get_or_from_slice_get layers place name [] named)
 
-reached_layer : (layers : List (List ℕ)) (script : List ℕ) (place : ℕ) (name : List ℕ) (told : Option FileMap) (file : List ℕ)
+reached_layer : (layers : List (List ℕ)) (script : List ℕ) (place : ℕ) (name : List ℕ) (told : Option FileMap) (file : List ℕ) → length layers ≤ 8
     → slice_get layers place ≡ Some name → IfSome told (λ files. SpellLayers files (take place layers)) → file ≡ name → IsReached (step layers script) told file
-reached_layer layers script place name told file named spelled is = record {
+reached_layer layers script place name told file few named spelled is = record {
+  few = few;
   place = place;
   named = slice_get_joined layers (script ∷ []) place name named ∙ ap (λ (n : List ℕ). Some n) (sym is);
   before = told_before layers script place told (omega (arith, slice_get_within layers place name named)) spelled;
@@ -256,20 +262,20 @@ one_layer_refuses : (layers : List (List ℕ)) (script : List ℕ) (before now :
     → slice_get layers place ≡ Some name → IfSome before.files (λ files. SpellLayers files (take place layers)) → RefusesLayer name before now status
     → RefusesFiles (step layers script) before now status
 one_layer_refuses layers script before now place name (ReadFault file) few named spelled why =
-    (reached_layer layers script place name before.files file named spelled why.0, failed_named name file before now why.0 why.1)
+    (reached_layer layers script place name before.files file few named spelled why.0, failed_named name file before now why.0 why.1)
 one_layer_refuses layers script before now place name (Layer file line cause) few named spelled why = record {
   faults = why.0;
-  answer = is_named layers place name file named why.1;
+  answer = (few, is_named layers place name file named why.1);
   told = told_layers layers script place name (Layer file line cause) before.files few named spelled why.2;
 }
 one_layer_refuses layers script before now place name (Limit (File file) which count) few named spelled why = record {
   faults = why.0;
-  answer = (Contains-append_left layers (script ∷ []) file (is_named layers place name file named why.1.0), why.1.1, why.1.2, why.1.3);
+  answer = (few, Contains-append_left layers (script ∷ []) file (is_named layers place name file named why.1.0), why.1.1, why.1.2, why.1.3);
   told = told_layers layers script place name (Limit (File file) which count) before.files few named spelled why.2;
 }
 one_layer_refuses layers script before now place name (Limit (Line file line) which count) few named spelled why = record {
   faults = why.0;
-  answer = (Contains-append_left layers (script ∷ []) file (is_named layers place name file named why.1.0), why.1.1);
+  answer = (few, Contains-append_left layers (script ∷ []) file (is_named layers place name file named why.1.0), why.1.1);
   told = told_layers layers script place name (Limit (Line file line) which count) before.files few named spelled why.2;
 }
 one_layer_refuses layers script before now place name (Limit Words which count) few named spelled why = absurd why.1
@@ -319,10 +325,10 @@ script_named layers script =
     slice_get-get_or (layers ++ script ∷ []) (length layers) [] (omega (arith, length-append layers (script ∷ [])))
     ∙ ap (λ (n : List ℕ). Some n) (get_or-append_seam layers script [] [])
 
-script_limit : (layers : List (List ℕ)) (script : List ℕ) (now : ShelfState) (place : Place) (which : Which) (count : ℕ)
+script_limit : (layers : List (List ℕ)) (script : List ℕ) (now : ShelfState) (place : Place) (which : Which) (count : ℕ) → length layers ≤ 8
     → place ≡ File script → which ≡ Bytes → count ≡ byte_limit → now.taken ≡ byte_limit + 1 → PassesLimit (step layers script) now place which count
-script_limit layers script now place which count is bytes limit taken =
-    subst (λ (p : Place). PassesLimit (step layers script) now p which count) (sym is) (Contains-push layers script, bytes, limit, taken)
+script_limit layers script now place which count few is bytes limit taken =
+    subst (λ (p : Place). PassesLimit (step layers script) now p which count) (sym is) (few, Contains-push layers script, bytes, limit, taken)
 
 -- the script behind layers that were read: the shelf as it was between them counts as before
 pub script_refuses : (layers : List (List ℕ)) (script : List ℕ) (read : List LayerSpec) (before between now : ShelfState) (status : Status) → length layers ≤ 8
@@ -331,6 +337,7 @@ pub script_refuses : (layers : List (List ℕ)) (script : List ℕ) (read : List
 script_refuses layers script read before between now (ReadFault file) few are files faults why =
     let name : file ≡ script = why.0 in (
       record {
+        few = few;
         place = length layers;
         named = script_named layers script ∙ ap (λ (n : List ℕ). Some n) (sym name);
         before = all_before layers script read before.files are;
@@ -342,7 +349,7 @@ script_refuses layers script read before between now (ReadFault file) few are fi
     )
 script_refuses layers script read before between now (Limit place which count) few are files faults why = record {
   faults = why.0 ∙ faults;
-  answer = script_limit layers script now place which count why.1 why.2 why.3 why.4;
+  answer = script_limit layers script now place which count few why.1 why.2 why.3 why.4;
   told = told_script layers script read (Limit place which count) before.files few are
       (subst (λ (f : Option FileMap). IfSome f (λ m. script_in m script ≡ Err (Limit place which count))) files why.5);
 }

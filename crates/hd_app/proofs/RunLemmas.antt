@@ -14,6 +14,7 @@ use Rattle.hd_app.specs.Outcomes.{outcome_of, drawn, drawn_if_read, layer_in}
 use Rattle.hd_app.specs.Refusing.{Outcome, refused}
 use Rattle.hd_app.specs.Runs.{ShelfState, RefusesFiles, IsAnswerTo, Runs}
 use Rattle.hd_io.proofs.Cuts.{cut_nothing}
+use Rattle.hd_app.proofs.InputLemmas.{draws_one}
 
 -- of a line without bytes nothing can be written
 empty_line : (files : FileList) (text : List ℕ) → Cut (line [] ∷ []) files text → (files ≡ []) × (text ≡ [])
@@ -106,7 +107,7 @@ pub drawn_runs : (name out : List ℕ) (layer : LayerSpec) (shelf_before shelf_n
     → Ends (drawn out layer) before now status → Runs (Some (draw name out)) shelf_before shelf_now before now status
 drawn_runs name out layer shelf_before shelf_now before now status read kept ends =
     ran_runs (draw name out) (drawn out layer) shelf_before shelf_now before now status
-    (told_drawn name out layer shelf_before.files read) kept refl (λ no. no) (λ (no : Done ≡ WriteFault). cc) ends
+    (told_drawn name out layer shelf_before.files read) kept (draws_one name out) (λ no. no) (λ (no : Done ≡ WriteFault). cc) ends
 
 -- files that were refused are told
 pub refused_runs : (program : Program) (refusal : Status) (shelf_before shelf_now : ShelfState) (before now : Outside) (status : Status)

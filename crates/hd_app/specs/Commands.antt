@@ -1,6 +1,8 @@
 -- The commands of the program, by the words that follow its name.
-use Rattle.std.specs.Prelude.{ℕ, ◌-◌, List, [], ◌∷◌, ◌++◌, length, take, slice_index_or, Option, Some, None, nat_lt, codes, if◌then◌else◌}
+use Rattle.std.specs.Prelude.{ℕ, ◌-◌, ◌≤◌, List, [], ◌∷◌, ◌++◌, length, take, slice_index_or, Option, Some, None, nat_lt, codes, if◌then◌else◌}
 use Rattle.std.specs.Str.{bytes_eq}
+use Rattle.hd_usda.specs.declared.limits.Which.TheVariants.{Layers}
+use Rattle.hd_usda.specs.Limits.{limit_of}
 
 -- draw LAYER OUT: one layer to one picture. step LAYER.. SCRIPT: layers, of which the first is the strongest, and a script
 pub data Program : Type 0 where
@@ -31,6 +33,10 @@ command (word ∷ words) =
 abbrev pub layer_names : Program → List (List ℕ)
 layer_names (draw layer out) = layer ∷ []
 layer_names (step layers script) = layers
+
+-- a command has no more layers than it may have
+abbrev pub HasFewLayers : Program → Type 0
+HasFewLayers program = length (layer_names program) ≤ limit_of Layers
 
 -- the names of all files that are read, in the order of reading
 abbrev pub file_names : Program → List (List ℕ)

@@ -1,5 +1,5 @@
 -- A run over a shelf that may fail.
-use Rattle.std.specs.Prelude.{◌≡◌, ◌+◌, ◌<◌, ◌≤◌, ◌⊎◌, ℕ, List, length, take, slice_get, All, Contains, Option, Some, None, IsSome, IfSome, IsSomeAnd, IsOk, max, Err, Bool, false}
+use Rattle.std.specs.Prelude.{◌≡◌, ◌+◌, ◌<◌, ◌≤◌, ◌⊎◌, ℕ, List, length, take, slice_get, All, Contains, Option, Some, None, IfSome, IsSomeAnd, IsOk, max, Err, Bool, false}
 use Rattle.hd_io.specs.Causes.{Rose}
 use Rattle.hd_io.specs.Files.{FileMap}
 use Rattle.hd_app.specs.declared.status.Status.{Status}
@@ -16,7 +16,7 @@ use Rattle.hd_usda.specs.declared.limits.Which.{Which}
 use Rattle.hd_usda.specs.declared.limits.Which.TheVariants.{Layers, Bytes}
 use Rattle.hd_usda.specs.Limits.{limit_of}
 use Rattle.hd_io.specs.Acts.{Outside, WroteCut}
-use Rattle.hd_app.specs.Commands.{Program, draw, step, layer_names, file_names}
+use Rattle.hd_app.specs.Commands.{Program, draw, step, layer_names, file_names, HasFewLayers}
 use Rattle.hd_app.specs.Endings.{Ends, IsReadFault}
 use Rattle.hd_app.specs.Outcomes.{outcome_of, refusal_at, layer_in, layer_of_bytes, script_in}
 use Rattle.hd_app.specs.Outside.{byte_limit}
@@ -113,29 +113,31 @@ RefusesScript name before now Done = ⊥
 RefusesScript name before now Usage = ⊥
 RefusesScript name before now WriteFault = ⊥
 
--- the file of this name is one that the command reads, and those that are read before it, where they are told, spell layers
+-- the file of this name is one that the command reads, which has no layer too many, and those that are read before it, where
+-- they are told, spell layers
 pub record IsReached (program : Program) (files : Option FileMap) (file : List ℕ) : Type 0 where
+  pub few : HasFewLayers program
   pub place : ℕ
   pub named : slice_get (file_names program) place ≡ Some file
   pub before : IfSome files (λ map. SpellLayers map (take place (file_names program)))
 
--- a limit that is passed: that of the layers, by the words; that of the bytes of a file, of which one more was taken; or one
--- in a line of a file
+-- a limit that is passed: that of the layers, by the words; and else that of the bytes of a file, of which one more was taken,
+-- or one in a line of a file
 abbrev pub PassesLimit : Program → ShelfState → Place → Which → ℕ → Type 0
 PassesLimit program shelf Words which count = (which ≡ Layers) × (count ≡ limit_of Layers) × (count < length (layer_names program))
-PassesLimit program shelf (File file) which count = Contains (file_names program) file × (which ≡ Bytes) × (count ≡ byte_limit) × (shelf.taken ≡ byte_limit + 1)
-PassesLimit program shelf (Line file line) which count = Contains (file_names program) file × (count ≡ limit_of which)
+PassesLimit program shelf (File file) which count = HasFewLayers program × Contains (file_names program) file × (which ≡ Bytes) × (count ≡ byte_limit) × (shelf.taken ≡ byte_limit + 1)
+PassesLimit program shelf (Line file line) which count = HasFewLayers program × Contains (file_names program) file × (count ≡ limit_of which)
 
 abbrev pub HasScript : Program → Type 0
 HasScript (draw layer out) = ⊥
 HasScript (step layers script) = Unit {0}
 
--- what an answer says of itself, whether or not the files are told
+-- what an answer says of itself, whether or not the files are told. A layer too many is answered by its limit alone
 abbrev pub IsAnswerTo : Option Program → ShelfState → Status → Type 0
-IsAnswerTo program shelf Done = IsSome program
+IsAnswerTo program shelf Done = IsSomeAnd program HasFewLayers
 IsAnswerTo program shelf Usage = program ≡ None
-IsAnswerTo program shelf (Layer file line why) = IsSomeAnd program (λ p. Contains (layer_names p) file)
-IsAnswerTo program shelf (Script line cause) = IsSomeAnd program HasScript
+IsAnswerTo program shelf (Layer file line why) = IsSomeAnd program (λ p. HasFewLayers p × Contains (layer_names p) file)
+IsAnswerTo program shelf (Script line cause) = IsSomeAnd program (λ p. HasFewLayers p × HasScript p)
 IsAnswerTo program shelf (Limit place which count) = IsSomeAnd program (λ p. PassesLimit p shelf place which count)
 IsAnswerTo program shelf (ReadFault file) = IsSomeAnd program (λ p. IsReached p shelf.files file) × (shelf.failed ≡ Some file)
 IsAnswerTo program shelf WriteFault = Unit {0}

@@ -74,6 +74,7 @@ pub fn read_inputs<S: Shelf>(
         ≡ outcome_of_lines script.now 1 (opened read.0.items) (lines_of read.1.items))) }
     ensures some { IfOk result (λ read. 1 ≤ vec_len read.0) }
     ensures few { IfOk result (λ read. vec_len read.0 ≤ 8) }
+    ensures taken { OnOk result (length layers.now ≤ 8) }
     ensures formed { IfOk result (λ read. All (λ layer. IsTrue (is_layer layer)) read.0.items) }
     ensures short { IfOk result (λ read. vec_len read.1 ≤ byte_limit) }
     ensures kept { OnOk result (S.faults shelf.new ≡ S.faults shelf.old) }

@@ -14,3 +14,8 @@ pub record FileRackState : Type 0 where
   pub is_open : Bool
   pub bytes : Option (List ℕ)
   pub faults : ℕ
+
+-- what a sink to a writer tells, with the bytes that the writer holds
+pub record OutSinkState : Type 0 where
+  pub bytes : Option (List ℕ)
+  pub faults : ℕ

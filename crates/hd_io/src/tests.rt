@@ -4,8 +4,8 @@ ghost use Rattle.std.specs.Prelude.{◌<◌, ◌≤◌};
 
 use super::*;
 use std::alloc::{AllocError, Global};
-use std::fs;
 use std::test::Fail;
+use std::{fs, io};
 
 /// Opens a file and reads all of it, past the reads that fail, and returns its bytes and how many failed.
 fn read_file<S: Shelf>(
@@ -144,7 +144,7 @@ fn the_system_keeps_what_is_written(rt: HostRuntime) -> Result<(), Fail> {
     let read = read_file(alloc, &mut shelf, "written.bytes", 4)?;
     assert_eq!(rt; read.0.as_slice(), b"some bytes".as_slice());
     assert_eq!(rt; shelf.failures.count, 1);
-    write_line(&mut OutSink::new(rt), b"a line\n")?;
+    write_line(&mut OutSink::new(io::writer(&rt)), b"a line\n")?;
     fs::remove_file(&rt, "written.bytes")?;
     Ok(())
 }
@@ -159,7 +159,7 @@ fn the_forms_cross_threads(rt: HostRuntime) -> Result<(), Fail> {
     crosses_threads(&MemorySink::new(alloc, Vec::new(alloc), 1));
     crosses_threads(&FileShelf::new(rt, alloc));
     crosses_threads(&FileRack::new(rt));
-    crosses_threads(&OutSink::new(rt));
+    crosses_threads(&OutSink::new(io::writer(&rt)));
     crosses_threads(&OutsideFault::Failed);
     Ok(())
 }

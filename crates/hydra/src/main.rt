@@ -4,9 +4,9 @@
 use hd_app::top_plain;
 use hd_io::{FileRack, FileShelf, OutSink};
 use std::alloc::AllocError;
-use std::env;
 use std::io::ErrorKind;
 use std::process::ExitCode;
+use std::{env, io};
 
 #[cfg(test)]
 mod tests;
@@ -30,7 +30,7 @@ fn words(rt: &HostRuntime) -> Result<Vec<String>, AllocError> {
 fn run(rt: HostRuntime, words: &[String]) -> u8 {
     let mut shelf = FileShelf::new(rt, rt.alloc());
     let mut rack = FileRack::new(rt);
-    let mut out = OutSink::new(rt);
+    let mut out = OutSink::new(io::writer(&rt));
     top_plain(rt.alloc(), words, &mut shelf, &mut rack, &mut out).number()
 }
 

@@ -4,7 +4,7 @@ ghost use Rattle.std.specs.Prelude.{◌≡◌, ◌<◌, ◌≤◌, IsTrue, true,
 ghost use Rattle.std.specs.Io.KnownBytes.{Keeps, WriteAppends};
 ghost use Rattle.hd_io.specs.Causes.{HasCause};
 
-use super::write_some;
+use super::offer;
 use crate::{OutsideFault, Rack};
 use std::fs::OpenFile;
 use std::io::Write;
@@ -82,13 +82,7 @@ impl<R: Files> Rack for FileRack<R> {
         let Some(file) = &mut self.file else {
             unreachable!()
         };
-        match write_some(file, piece) {
-            Some(count) => Ok(count),
-            None => {
-                self.faults = self.faults.saturating_add(1);
-                Err(OutsideFault::Failed)
-            }
-        }
+        offer(file, piece, &mut self.faults)
     }
 
     fn finish(&mut self) -> Result<(), OutsideFault>

@@ -6,6 +6,7 @@ ghost use Rattle.hd_io.specs.Causes.{HasCause};
 ghost use Rattle.hd_io.specs.Failures.{failed_name};
 ghost use Rattle.hd_io.specs.Shelf.{NamesFailure};
 
+use super::read_some;
 use crate::failures::Failures;
 use crate::{OutsideFault, Shelf};
 use std::alloc::Global;
@@ -37,7 +38,7 @@ impl<F: Read> Reading<F> {
         if u64::MAX - self.taken < buffer.len() as u64 {
             return failures.fail(self.name.as_str());
         }
-        match self.file.read(buffer) {
+        match read_some(&mut self.file, buffer) {
             Ok(count) => {
                 self.taken += count as u64;
                 Ok(count)

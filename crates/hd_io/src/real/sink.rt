@@ -1,51 +1,52 @@
-//! A sink to the standard output.
+//! A sink to a writer, such as the standard output.
 
-ghost use Rattle.std.specs.Prelude.{◌≡◌, ◌<◌, None};
+ghost use Rattle.std.specs.Prelude.{◌≡◌, ◌<◌, ◌≤◌, None, length, IfOk};
+ghost use Rattle.std.specs.Io.KnownBytes.{WriteAppends};
+ghost use Rattle.hd_io.specs.Causes.{HasCause};
 
-use super::write_some;
+use super::offer;
 use crate::{OutsideFault, Sink};
-use std::io;
 use std::io::Write;
 use std::marker::Model;
 
-/// A sink to the standard output. It tells no bytes.
+/// A sink to a writer that holds nothing back, as that of the standard output. As a sink it tells no bytes; contracts see
+/// those of the writer where it tells them.
 #[derive(Drop)]
-pub struct OutSink<P> {
-    rt: P,
+pub struct OutSink<W: Write> {
+    writer: W,
     faults: u64,
 }
 
-impl<P> Model for OutSink<P> {
-    ghost use Rattle.std.specs.Prelude.{ℕ};
+impl<W: Write> Model for OutSink<W> {
+    ghost use Rattle.hd_io.specs.Real.{OutSinkState};
 
-    ghost Value = { ℕ };
+    ghost Value = { OutSinkState };
 
-    ghost view = { λ s. s.faults };
+    ghost view = { λ s. record { bytes = W.contents s.writer; faults = s.faults } };
 }
 
-impl<P: Print> OutSink<P> {
-    /// A sink to the standard output of this runtime. Contracts see how often it has failed.
-    pub fn new(rt: P) -> OutSink<P>
-        ensures { result ≡ 0 }
+impl<W: Write> OutSink<W> {
+    /// A sink to this writer.
+    pub fn new(writer: W) -> OutSink<W>
+        ensures bytes { result.bytes ≡ W.contents writer }
+        ensures faults { result.faults ≡ 0 }
     {
-        OutSink { rt, faults: 0 }
+        OutSink { writer, faults: 0 }
     }
 }
 
-impl<P: Print> Sink for OutSink<P> {
+impl<W: Write> Sink for OutSink<W> {
     ghost held = { λ _. None };
 
-    ghost faults = { λ s. s };
+    ghost faults = { λ s. s.faults };
 
-    fn write(&mut self, piece: &[u8]) -> Result<usize, OutsideFault> {
-        let mut output = io::writer(&self.rt);
-        match write_some(&mut output, piece) {
-            // What is reported as written is not to be lost when the process ends.
-            Some(count) if output.flush().is_ok() => Ok(count),
-            _ => {
-                self.faults = self.faults.saturating_add(1);
-                Err(OutsideFault::Failed)
-            }
-        }
+    fn write(&mut self, piece: &[u8]) -> Result<usize, OutsideFault>
+        requires { 0 < length piece.now }
+
+        ensures count { IfOk result (λ n. (1 ≤ n) × (n ≤ length piece.now)) }
+        ensures bytes { WriteAppends self.old.bytes self.new.bytes result piece.now }
+        ensures cause { HasCause self.old.faults self.new.faults result }
+    {
+        offer(&mut self.writer, piece, &mut self.faults)
     }
 }

@@ -1,4 +1,5 @@
-use Rattle.std.proofs.Common.{map, string_bytes}
+use Rattle.std.proofs.Common.{◌≤◌, length, map, string_bytes, arith}
+use Rattle.std.proofs.lemmas.List.{length-map}
 use Rattle.hd_app.specs.Commands.{step}
 use Rattle.hd_app.proofs.RunLemmas.{refused_runs}
 use Rattle.hd_app.proofs.ScriptLemmas.{stepped_runs}
@@ -6,7 +7,8 @@ use Rattle.hd_app.proofs.top.step.Goals as goal
 
 pub returns-in-Ok-clause-runs : goal.returns-in-Ok-clause-runs
 returns-in-Ok-clause-runs g c =
-    stepped_runs (map string_bytes c.args.layers.now) c.args.script.now c.in-Ok.layers.items c.deref.result.now _ _ _ _ _
+    let few : length (map string_bytes c.args.layers.now) ≤ 8 = rw (length-map c.args.layers.now string_bytes) c.in-Ok.ensures.taken in
+    stepped_runs (map string_bytes c.args.layers.now) c.args.script.now c.in-Ok.layers.items c.deref.result.now _ _ _ _ _ few
     (rw c.deref.ensures.value c.in-Ok.ensures.told) c.in-Ok.ensures.kept c.run_over.ensures.ends
 
 pub returns-in-Err-clause-runs : goal.returns-in-Err-clause-runs
