@@ -7,7 +7,7 @@ use Rattle.hd_io.specs.Causes.{Rose}
 use Rattle.hd_io.specs.Files.{FileList, FileMap}
 use Rattle.hd_app.specs.declared.status.Status.{Status}
 use Rattle.hd_app.specs.declared.status.Status.TheVariants.{Done, Usage, Layer, Script, Limit, ReadFault, WriteFault, NoMemory}
-use Rattle.hd_io.specs.Acts.{Act, file, line, Cut, Outside, Adds, WroteCut}
+use Rattle.hd_io.specs.Acts.{Act, line, Cut, Outside, Adds, WroteCut}
 use Rattle.hd_app.specs.Commands.{Program, draw}
 use Rattle.hd_app.specs.Endings.{Ends, IsReadFault}
 use Rattle.hd_app.specs.Outcomes.{outcome_of, drawn, drawn_if_read, layer_in}

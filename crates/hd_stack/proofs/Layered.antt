@@ -1,7 +1,7 @@
 -- The inputs of a terminal, and their layers.
-use Rattle.std.proofs.Common.{◌≡◌, ℕ, Bool, true, ◌||◌, List, [], ◌∷◌, ◌++◌, append_assoc, map, length, Some, zero, suc, refl, sym, ◌∙◌, ap, subst, arith, slice_index_or}
+use Rattle.std.proofs.Common.{◌≡◌, ℕ, Bool, true, ◌||◌, List, [], ◌∷◌, ◌++◌, append_assoc, map, length, Some, zero, suc, ◌≤◌, refl, sym, ◌∙◌, ap, subst, arith, slice_index_or}
 use Rattle.std.proofs.lemmas.Simd.{map-map}
-use Rattle.std.proofs.lemmas.List.{append-nil, map-set, map_push}
+use Rattle.std.proofs.lemmas.List.{append-nil, length-map, length-set, map-set, map_push}
 use Rattle.std.proofs.lemmas.List.Elements.{All-map, All-push, All-set}
 use Rattle.std.proofs.lemmas.Option.{slice_get-map, get_or_from_slice_get}
 use Rattle.std.specs.Prelude.{All, slice_get, slice_set}
@@ -14,7 +14,9 @@ use Rattle.hd_retained.specs.Edits.{State}
 use Rattle.hd_retained.specs.Layers.{Layer, layer_of, scene_of}
 use Rattle.hd_merging.specs.Merges.{merged}
 use Rattle.hd_merging.proofs.Shaping.{merged_shaped}
-use Rattle.hd_stack.specs.Stacks.{composed, layer_at, IsSound, AreSound}
+use Rattle.hd_usda.specs.declared.limits.Which.TheVariants.{Layers}
+use Rattle.hd_usda.specs.Limits.{limit_of}
+use Rattle.hd_stack.specs.Stacks.{composed, layer_at, IsSound, IsStack, AreSound}
 
 abbrev pub layers_of : List State → List Layer
 layers_of inputs = map (λ (r : State). r.layer) inputs
@@ -55,6 +57,27 @@ layers_set inputs k r = map-set (λ (s : State). s.layer) inputs k r
 
 pub sound_set : (inputs : List State) (k : ℕ) (r : State) → IsSound r.layer → AreSound (layers_of inputs) → AreSound (layers_of (slice_set inputs k r))
 sound_set inputs k r is all = subst AreSound (sym (layers_set inputs k r)) (All-set IsSound (layers_of inputs) k r.layer is all)
+
+-- as many layers as before, with another one among them
+as_many : (inputs : List State) (k : ℕ) (r : State) → length (layers_of (slice_set inputs k r)) ≡ length (layers_of inputs)
+as_many inputs k r = ap (λ (layers : List Layer). length layers) (layers_set inputs k r) ∙ length-set (layers_of inputs) k r.layer
+
+pub stack_set : (inputs : List State) (k : ℕ) (r : State) → IsSound r.layer → IsStack (layers_of inputs) → IsStack (layers_of (slice_set inputs k r))
+stack_set inputs k r is all = record {
+  some = omega (arith, as_many inputs k r, all.some);
+  few = subst (λ n. n ≤ limit_of Layers) (sym (as_many inputs k r)) all.few;
+  sound = sound_set inputs k r is all.sound;
+}
+
+-- the layers of as many texts as a stack may have
+pub stack_of : (inputs : List State) (specs : List LayerSpec) → layers_of inputs ≡ map layer_of specs → 1 ≤ length specs → length specs ≤ 8 → AreSound (layers_of inputs) → IsStack (layers_of inputs)
+stack_of inputs specs are some few sound =
+    let many : length (layers_of inputs) ≡ length specs = ap (λ (layers : List Layer). length layers) are ∙ length-map specs layer_of in
+    record {
+      some = omega (arith, many, some);
+      few = subst (λ n. n ≤ limit_of Layers) (sym many) few;
+      sound = sound;
+    }
 
 -- one more layer that was read, as an input
 pub layers_more : (inputs : List State) (r : State) (read : LayerSpec) (left rest : List LayerSpec) (layers : List Layer) → left ≡ read ∷ rest → r.layer ≡ layer_of read

@@ -1,9 +1,9 @@
 -- Layers that make one scene together, of which the first is the strongest.
-use Rattle.std.specs.Prelude.{ℕ, ◌≤◌, List, map, All, Result, Ok, Err, slice_index_or, slice_set, refl}
+use Rattle.std.specs.Prelude.{ℕ, ◌≤◌, List, length, map, All, Result, Ok, Err, slice_index_or, slice_set, refl}
 use Rattle.std.specs.Coded.{Coded, code_by, coded×, coded_ℕ, coded_list}
 use Rattle.std.specs.FinMap.{empty, len}
 use Rattle.hd_usda.specs.declared.edit.Edit.{Edit}
-use Rattle.hd_usda.specs.declared.limits.Which.TheVariants.{Prims}
+use Rattle.hd_usda.specs.declared.limits.Which.TheVariants.{Layers, Prims}
 use Rattle.hd_usda.specs.Limits.{limit_of}
 use Rattle.hd_value.specs.Shapes.{is_authored}
 use Rattle.hd_scene.specs.Scenes.{Scene, IsClosed, IsShapedBy}
@@ -53,6 +53,12 @@ pub record IsSound (layer : Layer) : Type 0 where
 
 abbrev pub AreSound : List Layer → Type 0
 AreSound layers = All IsSound layers
+
+-- from one layer to as many as a command may have, each of which is sound
+pub record IsStack (layers : List Layer) : Type 0 where
+  pub some : 1 ≤ length layers
+  pub few : length layers ≤ limit_of Layers
+  pub sound : AreSound layers
 
 -- the layers at the inputs of a terminal
 abbrev pub layers_in : Filter (Merged State) → List Layer

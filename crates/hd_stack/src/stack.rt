@@ -2,12 +2,14 @@
 
 ghost use Rattle.std.specs.Prelude.{◌≡◌, ◌<◌, ◌≤◌, length, map, All, Ok, OnOk, OnErr, IfOk, IfErr, IsTrue, option_copied, vec_len};
 ghost use Rattle.hd_usda.specs.Edits.{is_edit};
+ghost use Rattle.hd_usda.specs.Limits.{limit_of};
 ghost use Rattle.hd_usda.specs.WellFormed.{is_layer};
+ghost use Rattle.hd_usda.specs.declared.limits.Which.TheVariants.{Layers};
 ghost use Rattle.hd_scene.specs.Scenes.{kind_at};
 ghost use Rattle.hd_retained.specs.Edits.{IsRefusal};
 ghost use Rattle.hd_retained.specs.Layers.{layer_of, ArePathsFrom};
 ghost use Rattle.hd_stack.specs.Kinds.{is_named, kind_over};
-ghost use Rattle.hd_stack.specs.Stacks.{composed, terminal_scene, layers_in, layer_at, edited_at, IsSound, AreSound};
+ghost use Rattle.hd_stack.specs.Stacks.{composed, terminal_scene, layers_in, layer_at, edited_at, IsSound, IsStack, AreSound};
 
 use hd_flattening::Flattening;
 use hd_merging::Merging;
@@ -30,7 +32,7 @@ pub struct Stack {
 
 impl Model for Stack {
     ghost use Rattle.std.specs.Prelude.{map};
-    ghost use Rattle.hd_stack.specs.Stacks.{Stacked, stacked_code, AreSound};
+    ghost use Rattle.hd_stack.specs.Stacks.{Stacked, stacked_code, IsStack};
 
     ghost Value = { Stacked };
 
@@ -38,7 +40,7 @@ impl Model for Stack {
 
     ghost view = { λ stack. record { layers = map (λ r. r.layer) stack.terminal.input.inputs; pulls = stack.terminal.pulls } };
 
-    ghost invariant = { λ stack. AreSound (map (λ r. r.layer) stack.terminal.input.inputs) };
+    ghost invariant = { λ stack. IsStack (map (λ r. r.layer) stack.terminal.input.inputs) };
 }
 
 impl Stack {
@@ -60,9 +62,11 @@ impl Stack {
         })
     }
 
-    /// How many layers there are.
+    /// How many layers there are, from one to eight.
     pub fn layers(&self) -> usize
-        ensures { result ≡ length self.now.layers }
+        ensures count { result ≡ length self.now.layers }
+        ensures some { 1 ≤ result }
+        ensures few { result ≤ limit_of Layers }
     {
         self.terminal.input().count()
     }
@@ -156,9 +160,9 @@ fn edit_input(
     edit: &Edit,
 ) -> Result<(), EditFault>
     requires below { layer < length terminal.old.input.inputs }
-    requires sound { AreSound (layers_in terminal.old) }
+    requires stack { IsStack (layers_in terminal.old) }
     requires formed { IsTrue (is_edit edit.now) }
-    ensures sound { AreSound (layers_in terminal.new) }
+    ensures stack { IsStack (layers_in terminal.new) }
     ensures done { OnOk result (edited_at (layers_in terminal.old) layer edit.now ≡ Ok (layers_in terminal.new)) }
     ensures refusal { IfErr result (IsRefusal (edited_at (layers_in terminal.old) layer edit.now)) }
     ensures err { OnErr result (layers_in terminal.new ≡ layers_in terminal.old) }

@@ -57,6 +57,17 @@ fn meshes(alloc: Global) -> Result<Stack, AllocError> {
     )
 }
 
+/// A prim with a child and one beside it, over a mesh with a point and another child.
+fn groups(alloc: Global) -> Result<Stack, AllocError> {
+    made(
+        alloc,
+        &[
+            b"#usda 1.0\ndef Xform \"T\" { def Mesh \"B\" {} } def \"S\" {}",
+            b"#usda 1.0\ndef Mesh \"T\" { point3f[] points = [(2, 0, 0)] def Points \"C\" {} }",
+        ],
+    )
+}
+
 /// Prims of several kinds in three layers, some without one.
 fn kinds(alloc: Global) -> Result<Stack, AllocError> {
     made(
@@ -127,6 +138,52 @@ pub fn set(stack: &mut Stack, alloc: Global, at: &str, text: &str) -> Result<(),
         return Err(EditFault::NoMemory);
     }
     stack.edit(alloc, 0, &edit)
+}
+
+/// Sets a property that is not used.
+fn set_unused(stack: &mut Stack, alloc: Global, layer: usize, at: &str) -> Result<(), EditFault> {
+    let edit = Edit::Set {
+        path: below_root(alloc, at)?,
+        property: None,
+    };
+    if layer >= stack.layers() {
+        return Err(EditFault::NoMemory);
+    }
+    stack.edit(alloc, layer, &edit)
+}
+
+fn clear(
+    stack: &mut Stack,
+    alloc: Global,
+    layer: usize,
+    at: &str,
+    name: &str,
+) -> Result<(), EditFault> {
+    let edit = Edit::Clear {
+        path: below_root(alloc, at)?,
+        name: Token::new(alloc, name)?,
+    };
+    if layer >= stack.layers() {
+        return Err(EditFault::NoMemory);
+    }
+    stack.edit(alloc, layer, &edit)
+}
+
+fn rename(
+    stack: &mut Stack,
+    alloc: Global,
+    layer: usize,
+    from: &str,
+    to: &str,
+) -> Result<(), EditFault> {
+    let edit = Edit::Rename {
+        from: below_root(alloc, from)?,
+        to: below_root(alloc, to)?,
+    };
+    if layer >= stack.layers() {
+        return Err(EditFault::NoMemory);
+    }
+    stack.edit(alloc, layer, &edit)
 }
 
 fn is_refused(answer: Result<(), EditFault>, want: EditFault) -> bool {
@@ -281,5 +338,78 @@ fn the_named_layer_alone_refuses(rt: HostRuntime) -> Result<(), Fail> {
     assert!(rt; remove(&mut stack, alloc, 1, "/A/K").is_ok());
     assert_eq!(rt; kind_of(&stack, alloc, "/A/K")?.text(), "-");
     assert_eq!(rt; names_below(&mut stack, alloc, "/A")?.as_str(), "");
+    Ok(())
+}
+
+#[test]
+fn each_form_of_edit_is_done_in_its_layer(rt: HostRuntime) -> Result<(), Fail> {
+    let alloc = rt.alloc();
+    let mut stack = groups(alloc)?;
+    assert!(rt; define(&mut stack, alloc, 0, "Mesh", "/A").is_ok());
+    assert_eq!(rt; kind_of(&stack, alloc, "/A")?.text(), "Mesh");
+    assert!(rt; set(&mut stack, alloc, "/T", "point3f[] points = [(1, 0, 0)]").is_ok());
+    assert_eq!(rt; first_point(&mut stack, alloc, "/T")?, Some(1));
+    assert!(rt; clear(&mut stack, alloc, 0, "/T", "points").is_ok());
+    assert_eq!(rt; first_point(&mut stack, alloc, "/T")?, Some(2));
+    assert!(rt; rename(&mut stack, alloc, 0, "/T", "/A/U").is_ok());
+    assert_eq!(rt; kind_of(&stack, alloc, "/A/U")?.text(), "Xform");
+    assert_eq!(rt; kind_of(&stack, alloc, "/T")?.text(), "Mesh");
+    assert_eq!(rt; names_below(&mut stack, alloc, "/T")?.as_str(), " C");
+    assert_eq!(rt;
+        paths_from(&stack, alloc, 0, "/")?.as_str(),
+        " /A /S /A/U /A/U/B"
+    );
+    assert!(rt; remove(&mut stack, alloc, 0, "/A").is_ok());
+    assert_eq!(rt; names_below(&mut stack, alloc, "/")?.as_str(), " S T");
+    assert_eq!(rt; paths_from(&stack, alloc, 1, "/")?.as_str(), " /T /T/C");
+    assert_eq!(rt; stack.pulls(), 2);
+    Ok(())
+}
+
+#[test]
+fn each_form_of_edit_is_refused_by_its_layer(rt: HostRuntime) -> Result<(), Fail> {
+    let alloc = rt.alloc();
+    let mut stack = groups(alloc)?;
+    let defined = define(&mut stack, alloc, 0, "Mesh", "/T/C/D");
+    assert!(rt; is_refused(defined, EditFault::NoPrim));
+    let hidden = set(
+        &mut stack,
+        alloc,
+        "/T/C",
+        "token visibility = \"invisible\"",
+    );
+    assert!(rt; is_refused(hidden, EditFault::NoPrim));
+    assert!(rt; is_refused(set_unused(&mut stack, alloc, 0, "/T/C"), EditFault::NoPrim));
+    assert!(rt;
+        is_refused(
+            clear(&mut stack, alloc, 0, "/T/C", "points"),
+            EditFault::NoPrim
+        )
+    );
+    assert!(rt; is_refused(remove(&mut stack, alloc, 0, "/T/C"), EditFault::NoPrim));
+    for (from, to, want) in [
+        ("/T/C", "/T/C/D", EditFault::NoPrim),
+        ("/T", "/T/C/D", EditFault::UnderItself),
+        ("/S", "/T/C/D", EditFault::NoPrim),
+        ("/S", "/T/B", EditFault::PrimThere),
+    ] {
+        let renamed = rename(&mut stack, alloc, 0, from, to);
+        assert!(rt; is_refused(renamed, want), "{from} to {to}");
+    }
+    assert_eq!(rt; paths_from(&stack, alloc, 0, "/")?.as_str(), " /S /T /T/B");
+    assert_eq!(rt; paths_from(&stack, alloc, 1, "/")?.as_str(), " /T /T/C");
+    Ok(())
+}
+
+#[test]
+fn what_another_layer_has_is_not_asked(rt: HostRuntime) -> Result<(), Fail> {
+    let alloc = rt.alloc();
+    let mut stack = groups(alloc)?;
+    assert!(rt; set_unused(&mut stack, alloc, 1, "/T/C").is_ok());
+    assert_eq!(rt; paths_from(&stack, alloc, 1, "/")?.as_str(), " /T /T/C");
+    assert!(rt; rename(&mut stack, alloc, 1, "/T/C", "/S").is_ok());
+    assert_eq!(rt; paths_from(&stack, alloc, 1, "/")?.as_str(), " /S /T");
+    assert_eq!(rt; kind_of(&stack, alloc, "/S")?.text(), "Points");
+    assert_eq!(rt; names_below(&mut stack, alloc, "/T")?.as_str(), " B");
     Ok(())
 }

@@ -1,9 +1,16 @@
 //! The program `hydra`.
 #![tactic(auto)]
 
-use hd_app::top_plain;
+ghost use Rattle.std.specs.Prelude.{◌≡◌, ◌≢◌, [], drop, IfOk, IfErr, IsOk};
+ghost use Rattle.std.specs.IoError.{error_kind};
+ghost use Rattle.std.specs.Process.{exit_status};
+ghost use Rattle.std.specs.Vec.Iter.{into_iter_items};
+ghost use Rattle.hd_app.specs.FaultLines.{number_of};
+
+use hd_app::{Status, top_plain};
 use hd_io::{FileRack, FileShelf, OutSink};
-use std::alloc::AllocError;
+use std::alloc::{AllocError, Global};
+use std::env::Args;
 use std::io::ErrorKind;
 use std::process::ExitCode;
 use std::{env, io};
@@ -11,32 +18,50 @@ use std::{env, io};
 #[cfg(test)]
 mod tests;
 
-/// The words behind the program's name. Words that are no text make no command, and so does no word.
-fn words(rt: &HostRuntime) -> Result<Vec<String>, AllocError> {
-    let mut words = Vec::new(rt.alloc());
-    match env::args(rt) {
-        Ok(args) => {
-            for word in args.skip(1) {
-                words.push(word)?;
-            }
-        }
-        Err(error) if error.kind() == ErrorKind::OutOfMemory => return Err(AllocError),
-        Err(_) => {}
+/// The words behind the program's name.
+fn behind_name(alloc: Global, args: Args) -> Result<Vec<String>, AllocError>
+    ensures { IfOk result (λ words. words.items ≡ drop 1 (into_iter_items args)) }
+{
+    let mut args = args;
+    let _ = args.next();
+    let mut words = Vec::new(alloc);
+    for word in args {
+        words.push(word)?;
     }
     Ok(words)
 }
 
-/// Does what the words say over the system's files and its standard output, and answers what the program ends with.
-fn run(rt: HostRuntime, words: &[String]) -> u8 {
+/// The words of the command line. Words that are no text make no command, and so does no word.
+fn words_of(alloc: Global, args: io::Result<Args>) -> Result<Vec<String>, AllocError>
+    ensures given { IfOk args (λ all. IfOk result (λ words. words.items ≡ drop 1 (into_iter_items all))) }
+    ensures none { IfErr args (λ _. IfOk result (λ words. words.items ≡ [])) }
+    ensures no_text { IfErr args (λ error. error_kind error ≢ ErrorKind.OutOfMemory → IsOk result) }
+{
+    match args {
+        Ok(args) => behind_name(alloc, args),
+        Err(error) if error.kind() == ErrorKind::OutOfMemory => Err(AllocError),
+        Err(_) => Ok(Vec::new(alloc)),
+    }
+}
+
+/// Does what the words say over the system's files and its standard output.
+fn run(rt: HostRuntime, words: &[String]) -> Status {
     let mut shelf = FileShelf::new(rt, rt.alloc());
     let mut rack = FileRack::new(rt);
     let mut out = OutSink::new(io::writer(&rt));
-    top_plain(rt.alloc(), words, &mut shelf, &mut rack, &mut out).number()
+    top_plain(rt.alloc(), words, &mut shelf, &mut rack, &mut out)
+}
+
+/// What the program ends with.
+fn ended(status: &Status) -> ExitCode
+    ensures { exit_status result ≡ number_of status.now }
+{
+    ExitCode::from(status.number())
 }
 
 fn main(rt: HostRuntime) -> ExitCode {
-    match words(&rt) {
-        Ok(words) => ExitCode::from(run(rt, &words)),
-        Err(_) => ExitCode::from(7),
+    match words_of(rt.alloc(), env::args(&rt)) {
+        Ok(words) => ended(&run(rt, &words)),
+        Err(_) => ended(&Status::NoMemory),
     }
 }

@@ -38,7 +38,7 @@ fn the_program_ends_with_the_number_of_its_status(rt: HostRuntime) -> Result<(),
         (&["draw", "layer.usda", "no/such/folder"], 6),
     ];
     for (words, number) in table {
-        assert_eq!(rt; run(rt, &words_of(alloc, words)?), number);
+        assert_eq!(rt; run(rt, &words_of(alloc, words)?).number(), number);
     }
     let mut shelf = FileShelf::new(rt, alloc);
     shelf.open("picture.ppm")?;

@@ -1,4 +1,4 @@
-use Rattle.std.proofs.Common.{◌≤◌, length, map, string_bytes, arith}
+use Rattle.std.proofs.Common.{◌≤◌, length, map, string_bytes}
 use Rattle.std.proofs.lemmas.List.{length-map}
 use Rattle.hd_app.specs.Commands.{step}
 use Rattle.hd_app.proofs.RunLemmas.{refused_runs}

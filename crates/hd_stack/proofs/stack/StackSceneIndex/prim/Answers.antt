@@ -10,7 +10,7 @@ use Rattle.hd_stack.proofs.stack.StackSceneIndex.prim.Goals as goal
 pub prim-requires : goal.prim-requires
 prim-requires c =
     let inputs : List State = c.self.inside.terminal.input.inputs in
-    (inputs_closed inputs c.self.invariant, terminal_shaped inputs c.self.invariant)
+    (inputs_closed inputs c.self.invariant.sound, terminal_shaped inputs c.self.invariant.sound)
 
 pub returns-clause-value : goal.returns-clause-value
 returns-clause-value c =
