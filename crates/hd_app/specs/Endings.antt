@@ -45,7 +45,7 @@ IsDecided (ReadFault name) = ⊥
 IsDecided WriteFault = ⊥
 IsDecided NoMemory = ⊥
 
--- the layer could not be read
+-- a file could not be read
 abbrev pub IsReadFault : Status → Type 0
 IsReadFault (ReadFault name) = Unit {0}
 IsReadFault Done = ⊥

@@ -8,7 +8,7 @@ use Rattle.hd_io.specs.declared.fault.OutsideFault.{OutsideFault}
 use Rattle.hd_io.specs.declared.fault.OutsideFault.TheVariants as faults
 use Rattle.hd_io.specs.Files.{FileMap, open_bytes}
 
--- the most bytes that a layer may have
+-- the most bytes that a layer or the script may have
 abbrev pub byte_limit : ℕ
 byte_limit = limit_of Bytes
 

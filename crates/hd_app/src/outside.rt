@@ -9,7 +9,7 @@ ghost use Rattle.hd_app.specs.Outside.{byte_limit, Holds, HoldsTooMuch, HoldsOpe
 use hd_io::{OutsideFault, Shelf};
 use std::alloc::{AllocError, Global};
 
-/// The most bytes that a layer may have.
+/// The most bytes that a layer or the script may have.
 const BYTE_LIMIT: usize = 1_048_576;
 
 /// How many bytes one call of a shelf is asked for.

@@ -17,7 +17,7 @@ use hd_scene::Prim;
 use hd_value::{Container, Locator, Value};
 use std::alloc::{AllocError, Global};
 
-/// What flattening makes of what stands at a path, and takes this from its ancestors.
+/// What flattening makes of what stands at a path, where its ancestors give it this.
 pub(crate) fn flat_prim(
     alloc: Global,
     inherited: &Inherited,
@@ -36,7 +36,7 @@ pub(crate) fn flat_prim(
     }
 }
 
-/// What flattening makes of the values of a prim that takes this from its ancestors.
+/// What flattening makes of the values of a prim whose ancestors give it this.
 fn flat_values(
     alloc: Global,
     inherited: &Inherited,

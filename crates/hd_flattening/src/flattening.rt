@@ -25,7 +25,7 @@ use std::marker::Model;
 /// flag), `purpose` (a token), `binding` (one path, absent where there is none) and `primvars/color` (colours, empty
 /// where there are none). All else passes.
 ///
-/// It is in step where its input is, and has the values that layers author and instancing gives.
+/// It is in step where its input is in step, and each value of the input is one that layers author or instancing gives.
 #[derive(Drop)]
 pub struct Flattening<I> {
     input: I,

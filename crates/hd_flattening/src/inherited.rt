@@ -49,7 +49,7 @@ impl Inherited {
         }
     }
 
-    /// What the children of a prim take, which takes this itself.
+    /// What the children of a prim take, where the prim itself takes this.
     pub fn below(&self, alloc: Global, values: &Container) -> Result<Inherited, AllocError>
         ensures { IfOk result (IsFlatOf inherited_from values.now self.now) }
     {

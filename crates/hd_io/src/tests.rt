@@ -132,6 +132,12 @@ fn a_sink_in_memory_writes_by_its_plan(rt: HostRuntime) -> Result<(), Fail> {
 fn the_system_keeps_what_is_written(rt: HostRuntime) -> Result<(), Fail> {
     let alloc = rt.alloc();
     let mut rack = FileRack::new(rt);
+    // What a file held before is gone.
+    write_file(
+        &mut rack,
+        "written.bytes",
+        b"longer bytes that were there before",
+    )?;
     write_file(&mut rack, "written.bytes", b"some bytes")?;
     assert_eq!(rt; rack.create("no/such/folder"), Err(OutsideFault::Failed));
     let mut shelf = FileShelf::new(rt, alloc);

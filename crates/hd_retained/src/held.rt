@@ -93,6 +93,7 @@ impl Held {
         ensures properties { IfOk result (λ held. held.properties ≡ properties.items) }
         ensures held { IfOk result IsHeld }
     {
+        // The text is not used: its contract says that these names are those of a path.
         let _ = path.as_text();
         let spec = PrimSpec {
             path: path.copy()?,

@@ -14,14 +14,11 @@ ghost use Rattle.hd_retained.specs.Edits.{has_parent};
 ghost use Rattle.hd_retained.specs.Indexed.{place_cmp, is_at_depth, prim_of, layer_in, IsHeld, IsSound, IsIndex, IsSubtree, IsWithout};
 
 use crate::held::{Held, Place};
-use hd_path::{Path, Token};
+use hd_path::{MAX_DEPTH, Path, Token};
 use hd_scene::Prim;
 use hd_usda::LayerSpec;
 use std::alloc::{AllocError, Global};
 use std::collections::BTreeMap;
-
-/// How many names a path has at most.
-const MAX_DEPTH: usize = 32;
 
 /// The prim at a path.
 pub(crate) fn find<'a>(

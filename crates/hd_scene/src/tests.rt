@@ -101,7 +101,7 @@ fn copied_prims_are_equal(rt: HostRuntime) -> Result<(), Fail> {
     Ok(())
 }
 
-/// An index of `/B`, `/A` and `/A/C`.
+/// An index of `/B`, `/A` and `/A/C`. `/D/E` is not put, since `/D` is absent.
 fn sample(alloc: Global) -> Result<LayerIndex, AllocError>
     ensures { IfOk result (λ index. IsClosed index.layer) }
 {

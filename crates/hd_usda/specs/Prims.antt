@@ -122,7 +122,8 @@ ended counts path h s inner = record s {
   found = with_prim counts (record { path = path; kind = h.kind; properties = inner.body.values }) inner.found;
 }
 
--- prim = ("def" | "over" | "class") [WORD] STRING [meta] "{" item* "}", behind its first word
+-- prim = ("def" | "over" | "class") [WORD] STRING [meta] "{" item* "}", behind its first word. Without room the name in the
+-- head is a fault, so that the first case gives no prim
 unfoldable pub prim : ℕ → Path → PrimForm
 prim zero path counts s ts = do
   h ← head 0 counts s.found.count s.names ts

@@ -19,7 +19,7 @@ pub enum LayerWhy {
     Twice,
     /// The token has a meaning that is left out.
     LeftOut,
-    /// The number is no whole one.
+    /// The number is not written as a whole one.
     Fraction,
     /// The quantity passes its limit.
     Limit(Which),

@@ -347,6 +347,7 @@ fn one_prim(
     ensures fewer { OnOk result (count cursor.new < count cursor.old) }
 {
     let head = prim_head(alloc, cursor, room, counts, found.count, &mut inside.names)?;
+    // Without room the name is a fault, so that this is not reached.
     if room == 0 {
         return Ok(());
     }

@@ -1,4 +1,4 @@
-//! What a text of the whole profile says.
+//! What a text says.
 
 ghost use Rattle.std.specs.Prelude.{◌≡◌, IfOk};
 

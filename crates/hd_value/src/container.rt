@@ -293,6 +293,7 @@ fn put_at(
         }
         Some((first, more)) => match source {
             Source::Inner(inner) => put(inner, alloc, first, more, value),
+            // No caller comes here: no value stands above the place.
             Source::Leaf(_) => {
                 *source = Source::Inner(container_with(alloc, first, more, value)?);
                 Ok(())

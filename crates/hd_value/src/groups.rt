@@ -6,7 +6,7 @@ ghost use Rattle.hd_value.specs.Groups.{locator_of_group, locators_before_flatte
 use crate::locator::Locator;
 use std::alloc::{AllocError, Global};
 
-/// A group of values of a prim that change together, named by the locator under which they stand.
+/// A group of values of a prim that change together. Each stands under the locator that is named beside it.
 #[derive(Clone, Copy, Debug, PartialEq, Eq)]
 pub enum Group {
     /// `primvars/points`
