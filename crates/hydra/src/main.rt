@@ -1,11 +1,13 @@
 //! The program `hydra`.
 #![tactic(auto)]
 
-ghost use Rattle.std.specs.Prelude.{◌≡◌, ◌≢◌, [], drop, IfOk, IfErr, IsOk};
+ghost use Rattle.std.specs.Prelude.{◌≡◌, ◌≢◌, [], drop, map, string_bytes, IfOk, IfErr, IsOk, IsErr};
 ghost use Rattle.std.specs.IoError.{error_kind};
 ghost use Rattle.std.specs.Process.{exit_status};
 ghost use Rattle.std.specs.Vec.Iter.{into_iter_items};
+ghost use Rattle.hd_app.specs.Commands.{command};
 ghost use Rattle.hd_app.specs.FaultLines.{number_of};
+ghost use Rattle.hd_app.specs.Runs.{ShelfState, IsAnswerTo};
 
 use hd_app::{Status, top_plain};
 use hd_io::{FileRack, FileShelf, OutSink};
@@ -36,6 +38,7 @@ fn words_of(alloc: Global, args: io::Result<Args>) -> Result<Vec<String>, AllocE
     ensures given { IfOk args (λ all. IfOk result (λ words. words.items ≡ drop 1 (into_iter_items all))) }
     ensures none { IfErr args (λ _. IfOk result (λ words. words.items ≡ [])) }
     ensures no_text { IfErr args (λ error. error_kind error ≢ ErrorKind.OutOfMemory → IsOk result) }
+    ensures no_memory { IfErr args (λ error. error_kind error ≡ ErrorKind.OutOfMemory → IsErr result) }
 {
     match args {
         Ok(args) => behind_name(alloc, args),
@@ -44,8 +47,11 @@ fn words_of(alloc: Global, args: io::Result<Args>) -> Result<Vec<String>, AllocE
     }
 }
 
-/// Does what the words say over the system's files and its standard output.
-fn run(rt: HostRuntime, words: &[String]) -> Status {
+/// Does what the words say over the system's files and its standard output. The answer is one to the command that the
+/// words spell.
+fn run(rt: HostRuntime, words: &[String]) -> Status
+    ensures answer { (shelf : ShelfState) × IsAnswerTo (command (map string_bytes words.now)) shelf result }
+{
     let mut shelf = FileShelf::new(rt, rt.alloc());
     let mut rack = FileRack::new(rt);
     let mut out = OutSink::new(io::writer(&rt));
