@@ -1,7 +1,7 @@
 //! Worked examples of edits.
 
 ghost use Rattle.std.specs.Prelude.{◌≢◌, [], IfOk, IsTrue};
-ghost use Rattle.hd_usda.specs.Edits.{is_below_root};
+ghost use Rattle.hd_usda.specs.WellFormed.{is_below_root};
 ghost use Rattle.hd_usda.specs.WellFormed.{is_property};
 
 use crate::{EditFault, Retained};

@@ -1,7 +1,8 @@
 -- Commands that a session may be handed.
 use Rattle.std.specs.Prelude.{ℕ, Bool, true, ◌&&◌, nat_le, Option, Some, None}
 use Rattle.hd_usda.specs.declared.limits.Which.TheVariants.{Frame}
-use Rattle.hd_usda.specs.Edits.{is_below_root, is_edit}
+use Rattle.hd_usda.specs.Edits.{is_edit}
+use Rattle.hd_usda.specs.WellFormed.{is_below_root}
 use Rattle.hd_usda.specs.Limits.{limit_of}
 use Rattle.hd_usda.specs.Prims.{Path}
 use Rattle.hd_script.specs.declared.command.Command.{Command}

@@ -1,7 +1,7 @@
 //! The commands, each by the words behind its name.
 
 ghost use Rattle.std.specs.Prelude.{◌≡◌, IfOk, IsTrue};
-ghost use Rattle.hd_usda.specs.Edits.{is_below_root};
+ghost use Rattle.hd_usda.specs.WellFormed.{is_below_root};
 ghost use Rattle.hd_script.specs.Faults.{Gives};
 ghost use Rattle.hd_script.specs.Fields as form;
 ghost use Rattle.hd_script.specs.Commands.{field, ends, alone, layer, define, set, clear, remove, rename, dump, last_path, start, tiles, named_command, command_in};

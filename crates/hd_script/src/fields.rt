@@ -3,7 +3,8 @@
 ghost use Rattle.std.specs.Prelude.{◌≡◌, ◌≤◌, length, IfOk, IsTrue};
 ghost use Rattle.std.specs.List.{list_all, prefix_len};
 ghost use Rattle.hd_path.specs.Names.{is_letter, is_digit, is_word, identifier_len};
-ghost use Rattle.hd_usda.specs.Edits.{is_below_root, may_be_set};
+ghost use Rattle.hd_usda.specs.Edits.{may_be_set};
+ghost use Rattle.hd_usda.specs.WellFormed.{is_below_root};
 ghost use Rattle.hd_usda.specs.Lexing.{begins};
 ghost use Rattle.hd_usda.specs.Names.{is_joined};
 ghost use Rattle.hd_script.specs.Faults.{Gives};

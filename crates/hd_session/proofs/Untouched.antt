@@ -10,7 +10,8 @@ use Rattle.std.specs.BTreeSet.{BTreeSet}
 use Rattle.hd_usda.specs.declared.edit.Edit.{Edit}
 use Rattle.hd_usda.specs.declared.edit.Edit.TheVariants.{Define, Set, Clear, Remove, Rename}
 use Rattle.hd_usda.specs.declared.limits.Which.TheVariants.{Prims, Depth}
-use Rattle.hd_usda.specs.Edits.{is_below_root, is_edit}
+use Rattle.hd_usda.specs.Edits.{is_edit}
+use Rattle.hd_usda.specs.WellFormed.{is_below_root}
 use Rattle.hd_value.specs.Locators.{is_prefix}
 use Rattle.std.proofs.lemmas.Bool.{and_parts}
 use Rattle.hd_path.specs.Paths.{path_cmp}

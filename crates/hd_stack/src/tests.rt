@@ -1,8 +1,7 @@
 //! Worked examples of edits of a stack.
 
 ghost use Rattle.std.specs.Prelude.{◌<◌, All, IfOk, IfSome, IsTrue};
-ghost use Rattle.hd_usda.specs.Edits.{is_below_root};
-ghost use Rattle.hd_usda.specs.WellFormed.{is_layer};
+ghost use Rattle.hd_usda.specs.WellFormed.{is_below_root, is_layer};
 
 use crate::Stack;
 use hd_path::{Path, Token};

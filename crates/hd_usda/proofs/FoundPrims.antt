@@ -10,7 +10,7 @@ use Rattle.hd_usda.specs.Cursors.{rest}
 use Rattle.hd_usda.specs.Loops.{all}
 use Rattle.hd_path.specs.Paths.{path_cmp}
 use Rattle.hd_usda.specs.Prims.{Path, Found, with_prim, layer_of}
-use Rattle.hd_usda.specs.WellFormed.{is_prim_spec, ascend, has_parent, is_layer}
+use Rattle.hd_usda.specs.WellFormed.{is_prim_spec, ascend, has_parent, is_layer, is_kind, has_kinds}
 use Rattle.hd_usda.proofs.OrderedPaths.{Entries, keys, with_entry, equal_path, itself, values_pass, stay_ordered, among, one_more, one_longer, IsKeyed, stay_keyed, keyed_paths}
 
 -- the path above
@@ -26,6 +26,7 @@ pub record IsFound (Open : Path → Type 0) (f : Found) : Type 0 where
   pub keyed : IsKeyed f.prims
   pub ordered : ascend (keys f.prims) ≡ true
   pub specs : list_all is_prim_spec (map (λ e. e.1) f.prims) ≡ true
+  pub kinds : list_all (λ p. is_kind p.kind) (map (λ e. e.1) f.prims) ≡ true
   pub parents : Parented Open f.prims
 
 -- prims came, and not more than were counted
@@ -45,7 +46,7 @@ opened Open own p = Open p ⊎ (p ≡ own)
 
 pub open_more : (Open : Path → Type 0) (own : Path) (f : Found) (n : ℕ) → IsFound Open f → IsFound (opened Open own) (record f { count = n })
 unfolding Parented
-open_more Open own f n h = record { keyed = h.keyed; ordered = h.ordered; specs = h.specs; parents = λ p there. widen (length p ≡ 1) (among (keys f.prims) (parent p) ≡ true) (parent p) (h.parents p there) }
+open_more Open own f n h = record { keyed = h.keyed; ordered = h.ordered; specs = h.specs; kinds = h.kinds; parents = λ p there. widen (length p ≡ 1) (among (keys f.prims) (parent p) ≡ true) (parent p) (h.parents p there) }
   where
     widen : (A B : Type 0) (q : Path) → A ⊎ (B ⊎ Open q) → A ⊎ (B ⊎ (Open q ⊎ (q ≡ own)))
     widen A B q (inl a) = inl a
@@ -64,13 +65,14 @@ abbrev with_one : Found → PrimSpec → List Path
 with_one f v = keys (with_entry f.prims v.path v)
 
 -- a prim that ends is among the others from then on
-pub close_one : (Open : Path → Type 0) (path : Path) (name : List ℕ) (v : PrimSpec) (f : Found) → (path ≡ []) ⊎ Open path → v.path ≡ path ++ name ∷ [] → is_prim_spec v ≡ true
+pub close_one : (Open : Path → Type 0) (path : Path) (name : List ℕ) (v : PrimSpec) (f : Found) → (path ≡ []) ⊎ Open path → v.path ≡ path ++ name ∷ [] → is_prim_spec v ≡ true → is_kind v.kind ≡ true
     → IsFound (opened Open (path ++ name ∷ [])) f → IsFound Open (with_prim true v f)
 unfolding Parented
-close_one Open path name v f above own good h = record {
+close_one Open path name v f above own good kind h = record {
   keyed = stay_keyed f.prims v h.keyed;
   ordered = stay_ordered f.prims v.path v h.ordered;
   specs = values_pass is_prim_spec f.prims v.path v h.specs good;
+  kinds = values_pass (λ p. is_kind p.kind) f.prims v.path v h.kinds kind;
   parents = λ p there. case p (or_cases (is_eq (path_cmp p v.path)) (among (keys f.prims) p) (sym (one_more f.prims v.path v p) ∙ there));
 }
   where
@@ -126,7 +128,7 @@ nothing_found = record { prims = []; count = 0 }
 
 pub nothing_is : IsFound none_open nothing_found
 unfolding nothing_found Parented
-nothing_is = record { keyed = tt; ordered = refl; specs = refl; parents = λ p there. absurd (cc) }
+nothing_is = record { keyed = tt; ordered = refl; specs = refl; kinds = refl; parents = λ p there. absurd (cc) }
 
 size_of : (es : Entries) → length (keys es) ≡ length es
 size_of [] = refl
@@ -143,3 +145,6 @@ found_layer f h c =
     let second : (nat_le (length (keys f.prims)) (limit_of Prims) && list_all is_prim_spec (map (λ e. e.1) f.prims) && ascend (keys f.prims)) ≡ true = and_from (nat_le (length (keys f.prims)) (limit_of Prims) && list_all is_prim_spec (map (λ e. e.1) f.prims)) (ascend (keys f.prims)) first h.ordered in
     let third = and_from (nat_le (length (keys f.prims)) (limit_of Prims) && list_all is_prim_spec (map (λ e. e.1) f.prims) && ascend (keys f.prims)) (list_all (has_parent (keys f.prims)) (keys f.prims)) second (keys_have_parents f.prims h.parents) in
     subst (λ ps. (nat_le (length ps) (limit_of Prims) && list_all is_prim_spec (map (λ e. e.1) f.prims) && ascend ps && list_all (has_parent ps) ps) ≡ true) (keyed_paths f.prims h.keyed) third
+
+pub found_kinds : (f : Found) → IsFound none_open f → has_kinds (layer_of f) ≡ true
+found_kinds f h = h.kinds

@@ -24,7 +24,7 @@ use Rattle.hd_usda.specs.Properties.{role_of, is_used, is_target_name}
 use Rattle.hd_usda.specs.Targets.{targets}
 use Rattle.hd_usda.specs.UsedValues.{used_value}
 use Rattle.hd_usda.specs.Items.{Seen, Joined, Lead, Body, with_value, list_op, past_modifiers, own_type, pname, new_name, some_value, samples_value, relation_value, is_misnamed, is_misnamed_relation, relation, tail_at, with_tail, new_attribute, plain_value, tail_value, own_role, behind_name, attribute, relation_or_attribute, property}
-use Rattle.hd_usda.specs.WellFormed.{is_property, are_distinct, has_form, is_list, is_path}
+use Rattle.hd_usda.specs.WellFormed.{is_property, are_distinct, has_form, is_list, is_below_root}
 use Rattle.hd_usda.proofs.Answering.{ok_same, past_fault, Leaves, Whatever, on_then, on_either, on_test, on_ok, on_fault, on_any}
 use Rattle.hd_usda.proofs.WellFormedPaths.{targets_are}
 use Rattle.hd_usda.proofs.WellFormedValues.{used_value_is}
@@ -112,11 +112,11 @@ targets_kept : (used : Bool) (name : List ℕ) (b : Body) (after : Seen) (ts : T
 unfolding relation_value
 targets_kept used name b after ts new unused target h =
     on_test Good (used && is Equals ts) _ _
-    (λ both. on_then (λ t. is_list is_path t.0 ≡ true) Good (targets (rest ts)) _ (λ t e. targets_are (rest ts) t.0 t.1 e)
+    (λ both. on_then (λ t. is_list is_below_root t.0 ≡ true) Good (targets (rest ts)) _ (λ t e. targets_are (rest ts) t.0 t.1 e)
     (λ t form. on_ok Good (_, t.1) (kept (and_parts used (is Equals ts) both).0 t.0 form)))
     (λ none. on_then Whatever Good (some_value ts) _ (on_any (some_value ts)) (λ u _. on_ok Good (_, u) (nothing_kept name b after new h)))
   where
-    kept : used ≡ true → (ps : List (List (List ℕ))) → is_list is_path ps ≡ true → IsBody (with_value (record b { properties = after }) (record { name = name; value = Paths ps }))
+    kept : used ≡ true → (ps : List (List (List ℕ))) → is_list is_below_root ps ≡ true → IsBody (with_value (record b { properties = after }) (record { name = name; value = Paths ps }))
     kept some ps form = one_kept name (Paths ps) b after new (relation_is (role_of name) name ps (unused some) (target some) form) h
 
 right_name : (used listed : Bool) (name : List ℕ) → (used && is_misnamed_relation listed name) ≡ false → (used && is_target_name name) ≡ true → is_used (role_of name) ≡ false

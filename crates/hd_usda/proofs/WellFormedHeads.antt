@@ -1,6 +1,6 @@
 -- What stands before the items of a prim is well formed.
 use Rattle.std.proofs.Common.{◌≡◌, ℕ, ◌+◌, ◌<◌, Bool, true, false, ◌&&◌, not, ◌==◌, nat_lt, nat_le, List, [], length, bytes_eq, Ok, refl, sym}
-use Rattle.std.proofs.lemmas.Bool.{and_from, and_parts, or_right, not-false, ltb-false, leb-false, le-leb}
+use Rattle.std.proofs.lemmas.Bool.{and_from, or_right, ltb-false, leb-false, le-leb}
 use Rattle.hd_path.specs.Names.{is_identifier}
 use Rattle.hd_usda.specs.declared.lexer.Kind.TheVariants.{Word, Text, OpenCurly}
 use Rattle.hd_usda.specs.declared.fault.LayerWhy.TheVariants.{Syntax, Limit}
@@ -37,10 +37,9 @@ count_is true line count n e =
     record { counted = λ _. (sym (ok_same room.1), leb-false (limit_of Prims) count room.0); same = λ never. absurd (cc) }
 count_is false line count n e = record { counted = λ never. absurd (cc); same = λ _. ok_same e }
 
--- what a name says of the prim
-record IsNamed (counts : Bool) (count : ℕ) (n : Named × Tokens) : Type 0 where
-  name : is_prim_name n.0.name ≡ true
-  number : IsCounted counts count n.0.count
+-- the number that stands beside a name
+abbrev IsNamed : Bool → ℕ → Named × Tokens → Type 0
+IsNamed counts count n = IsCounted counts count n.0.count
 
 name_is : (room : ℕ) (counts : Bool) (count : ℕ) (names : Seen) (ts : Tokens) → Leaves (IsNamed counts count) (prim_name room counts count names ts)
 unfolding prim_name is_name
@@ -50,13 +49,11 @@ name_is room counts count names ts =
     (on_test (IsNamed counts count) (nat_lt (limit_of Name) (length (text ts))) _ _ (λ long. on_fault (IsNamed counts count) (fault_at ts (Limit Name))) (λ short.
     on_then (IsCounted counts count) (IsNamed counts count) (next_count counts (line_of ts) count) _ (count_is counts (line_of ts) count) (λ n number.
     on_then Whatever (IsNamed counts count) (new_name false (text ts) (line_of ts) names) _ (on_any (new_name false (text ts) (line_of ts) names)) (λ seen _.
-    on_ok (IsNamed counts count) (record { name = text ts; names = seen; count = n }, rest ts)
-    (record { name = short_name (text ts) (and_parts (is Text ts) (is_identifier (text ts)) (not-false (is Text ts && is_identifier (text ts)) named)).1 short; number = number }))))))
+    on_ok (IsNamed counts count) (record { name = text ts; names = seen; count = n }, rest ts) number)))))
 
--- what stands before the items of a prim
-pub record IsHead (counts : Bool) (count : ℕ) (h : Head × Tokens) : Type 0 where
-  pub name : is_prim_name h.0.named.name ≡ true
-  pub number : IsCounted counts count h.0.named.count
+-- the number among what stands before the items of a prim
+abbrev pub IsHead : Bool → ℕ → Head × Tokens → Type 0
+IsHead counts count h = IsCounted counts count h.0.named.count
 
 pub head_is : (room : ℕ) (counts : Bool) (count : ℕ) (names : Seen) (ts : Tokens) → Leaves (IsHead counts count) (head room counts count names ts)
 unfolding head
@@ -65,7 +62,7 @@ head_is room counts count names ts =
     on_then (IsNamed counts count) (IsHead counts count) (prim_name room counts count names k.1) _ (name_is room counts count names k.1) (λ n named.
     on_then Whatever (IsHead counts count) (metadata n.1) _ (on_any (metadata n.1)) (λ u _.
     on_then Whatever (IsHead counts count) (take_token OpenCurly u) _ (on_any (take_token OpenCurly u)) (λ v _.
-    on_ok (IsHead counts count) (record { kind = k.0; named = n.0 }, v) (record { name = named.name; number = named.number })))))
+    on_ok (IsHead counts count) (record { kind = k.0; named = n.0 }, v) named))))
 
 abbrev pub HasType : Head × Tokens → Type 0
 HasType h = is_kind h.0.kind ≡ true

@@ -1,29 +1,26 @@
 -- The prims that a reader may answer are well formed, and make a layer.
-use Rattle.std.proofs.Common.{◌≡◌, ℕ, zero, suc, ◌+◌, ◌⊎◌, Bool, true, false, ◌&&◌, not, nat_lt, nat_le, if◌then◌else◌, List, [], ◌∷◌, ◌++◌, length, Result, Ok, Err, IfOk, inl, inr, refl, sym, ap, subst, ◌∙◌, codes, arith, length-append}
-use Rattle.std.proofs.lemmas.Bool.{and_from, lt-ltb, le-leb}
-use Rattle.std.proofs.lemmas.List.Folds.{list_all-append}
+use Rattle.std.proofs.Common.{◌≡◌, ℕ, zero, suc, ◌+◌, ◌⊎◌, Bool, true, false, ◌&&◌, not, if◌then◌else◌, List, [], ◌∷◌, ◌++◌, length, Result, Ok, Err, IfOk, inl, inr, refl, sym, ap, subst, ◌∙◌, codes, arith, length-append}
+use Rattle.std.proofs.lemmas.Bool.{and_from, lt-ltb}
 use Rattle.std.specs.List.{list_all}
 use Rattle.hd_usda.specs.declared.lexer.Kind.TheVariants.{CloseCurly, Semicolon, End}
 use Rattle.hd_usda.specs.declared.fault.LayerFault.{LayerFault}
 use Rattle.hd_usda.specs.declared.fault.LayerWhy.TheVariants.{Syntax, LeftOut}
-use Rattle.hd_usda.specs.declared.limits.Which.TheVariants.{Depth}
 use Rattle.hd_usda.specs.declared.spec.PrimSpec.{PrimSpec}
 use Rattle.hd_usda.specs.declared.spec.LayerSpec.{LayerSpec}
-use Rattle.hd_usda.specs.Limits.{limit_of}
 use Rattle.hd_usda.specs.Lexing.{Tokens, tokens_from}
 use Rattle.hd_usda.specs.Cursors.{Fault, is_word, rest, fault_at, past_one, Gives}
 use Rattle.hd_usda.specs.Loops.{all}
 use Rattle.hd_usda.specs.Metadata.{metadata}
 use Rattle.hd_usda.specs.Items.{Seen, Body, property}
 use Rattle.hd_usda.specs.Prims.{Path, Found, Inside, inside_new, is_prim, Head, head, PrimForm, property_item, item, body, ended, prim, root_item, layer_of, layer}
-use Rattle.hd_usda.specs.WellFormed.{is_prim_name, is_path, is_kind, is_property, are_distinct, is_prim_spec, is_layer}
+use Rattle.hd_usda.specs.WellFormed.{is_below_root, is_property, are_distinct, is_prim_spec, is_layer, has_kinds}
 use Rattle.hd_usda.proofs.Answering.{Leaves, Whatever, on_then, on_either, on_ok, on_fault, on_any, on_all}
 use Rattle.hd_usda.proofs.LeavingItems.{head_leaves, item_leaves, prim_leaves}
 use Rattle.hd_usda.proofs.Leaving.{Behind, metadata_leaves}
 use Rattle.hd_usda.proofs.WordTokens.{Worded, worded_goes_on, tokens_worded}
 use Rattle.hd_usda.proofs.WellFormedBodies.{IsBody, names_of, property_keeps}
 use Rattle.hd_usda.proofs.WellFormedHeads.{IsHead, head_is, HasType, head_type}
-use Rattle.hd_usda.proofs.FoundPrims.{IsFound, Counts, no_counts, then_counts, opened, open_more, close_one, one_counted, none_open, nothing_found, nothing_is, found_layer}
+use Rattle.hd_usda.proofs.FoundPrims.{IsFound, Counts, no_counts, then_counts, opened, open_more, close_one, one_counted, none_open, nothing_found, nothing_is, found_layer, found_kinds}
 
 -- a property changes no prims, and the properties stay well formed
 Beside : Inside → Inside × Tokens → Type 0
@@ -53,7 +50,7 @@ uncounted (suc room) path s ts =
     (on_all (λ i. s.found ≡ i.0.found) CloseCurly (item (prim room (path ++ h.0.named.name ∷ [])) false) (λ i us before. before)
     (λ i us before. item_is (prim room (path ++ h.0.named.name ∷ [])) false (λ j. s.found ≡ j.found) i us
     (λ r e. before ∙ uncounted room (path ++ h.0.named.name ∷ []) i (rest us) r e) (λ r e. before ∙ (property_keeps_found false i us r e).0))
-    (inside_new (record s.found { count = h.0.named.count })) h.1 (ap (λ n. record s.found { count = n }) (heads.number.same refl)))
+    (inside_new (record s.found { count = h.0.named.count })) h.1 (ap (λ n. record s.found { count = n }) (heads.same refl)))
     (λ b stays. on_ok (λ r. s.found ≡ r.0.found) (ended false (path ++ h.0.named.name ∷ []) h.0 s b.0, b.1) stays))
 
 -- what a prim leaves of what stands beside it
@@ -80,35 +77,21 @@ after_property Open start s r h same body = record { used = body; found = subst 
 begins_within : (Open : Path → Type 0) (f : Found) → IsFound Open f → Within Open f (inside_new f)
 begins_within Open f h = record { used = record { used = refl; once = refl; seen = refl }; found = h; counts = no_counts f }
 
--- the names of a path that goes on below
-record IsWay (Open : Path → Type 0) (room : ℕ) (path : Path) : Type 0 where
-  above : (path ≡ []) ⊎ Open path
-  names : list_all is_prim_name path ≡ true
-  size : length path + room ≡ 32
+-- a path at which prims may be read: the root, or one of a prim that is open
+abbrev IsWay : (Path → Type 0) → Path → Type 0
+IsWay Open path = (path ≡ []) ⊎ Open path
 
-longer_way : (Open : Path → Type 0) (room : ℕ) (path : Path) (name : List ℕ) → IsWay Open (suc room) path → is_prim_name name ≡ true → IsWay (opened Open (path ++ name ∷ [])) room (path ++ name ∷ [])
-longer_way Open room path name h good =
-    let size = length-append path (name ∷ []) in
-    let before = h.size in
-    record {
-      above = inr (inr refl);
-      names = list_all-append is_prim_name path (name ∷ []) ∙ and_from (list_all is_prim_name path) (is_prim_name name && true) h.names (and_from (is_prim_name name) true good refl);
-      size = omega (arith, size, before);
-    }
+longer_way : (Open : Path → Type 0) (path : Path) (name : List ℕ) → IsWay (opened Open (path ++ name ∷ [])) (path ++ name ∷ [])
+longer_way Open path name = inr (inr refl)
 
-own_path : (Open : Path → Type 0) (room : ℕ) (path : Path) (name : List ℕ) → IsWay (opened Open (path ++ name ∷ [])) room (path ++ name ∷ []) → is_path (path ++ name ∷ []) ≡ true
-own_path Open room path name h =
-    let size = length-append path (name ∷ []) in
-    let all = h.size in
-    let own : Path = path ++ name ∷ [] in
-    and_from (nat_lt 0 (length own) && nat_le (length own) (limit_of Depth)) (list_all is_prim_name own)
-    (and_from (nat_lt 0 (length own)) (nat_le (length own) (limit_of Depth)) (lt-ltb 0 (length own) (omega (arith, size))) (le-leb (length own) (limit_of Depth) (omega (arith, all)))) h.names
+own_path : (path : Path) (name : List ℕ) → is_below_root (path ++ name ∷ []) ≡ true
+own_path path name = let size = length-append path (name ∷ []) in lt-ltb 0 (length (path ++ name ∷ [])) (omega (arith, size))
 
 -- the prim that ends is well formed
-spec_is : (own : Path) (kind : List ℕ) (b : Body) → is_path own ≡ true → is_kind kind ≡ true → IsBody b → is_prim_spec (record { path = own; kind = kind; properties = b.values }) ≡ true
-spec_is own kind b path named h =
-    and_from (is_path own && is_kind kind && list_all is_property b.values) (are_distinct (names_of b.values))
-    (and_from (is_path own && is_kind kind) (list_all is_property b.values) (and_from (is_path own) (is_kind kind) path named) h.used) h.once
+spec_is : (own : Path) (kind : List ℕ) (b : Body) → is_below_root own ≡ true → IsBody b → is_prim_spec (record { path = own; kind = kind; properties = b.values }) ≡ true
+spec_is own kind b path h =
+    and_from (is_below_root own && list_all is_property b.values) (are_distinct (names_of b.values))
+    (and_from (is_below_root own) (list_all is_property b.values) path h.used) h.once
 
 -- between the items of a prim, each word among the tokens that are left is an identifier too
 abbrev Between : (Path → Type 0) → Found → Inside × Tokens → Type 0
@@ -144,17 +127,16 @@ heads_are : (room count : ℕ) (names : Seen) (ts : Tokens) → Worded ts → Le
 heads_are room count names ts w h e = (head_is room true count names ts h e, head_type room true count names ts w h e, head_leaves Worded worded_goes_on room true count names ts w h e)
 
 -- a prim that ends, with those below it
-ended_is : (Open : Path → Type 0) (room : ℕ) (path : Path) (h : Head × Tokens) (s inner : Inside) → IsWay Open (suc room) path → Headed s.found.count h
+ended_is : (Open : Path → Type 0) (path : Path) (h : Head × Tokens) (s inner : Inside) → IsWay Open path → Headed s.found.count h
     → Within (opened Open (path ++ h.0.named.name ∷ [])) (record s.found { count = h.0.named.count }) inner → LeavesBeside Open s (ended true (path ++ h.0.named.name ∷ []) h.0 s inner)
-ended_is Open room path h s inner way heads within =
+ended_is Open path h s inner way heads within =
     let name : List ℕ = h.0.named.name in
     let v : PrimSpec = record { path = path ++ name ∷ []; kind = h.0.kind; properties = inner.body.values } in
-    let below = longer_way Open room path name way heads.0.name in
-    let good = spec_is (path ++ name ∷ []) h.0.kind inner.body (own_path Open room path name below) heads.1 within.used in
+    let good = spec_is (path ++ name ∷ []) h.0.kind inner.body (own_path path name) within.used in
     record {
       same_body = refl;
-      found = close_one Open path name v inner.found way.above refl good within.found;
-      counts = one_counted s.found inner.found h.0.named.count v (heads.0.number.counted refl) within.counts;
+      found = close_one Open path name v inner.found way refl good heads.1 within.found;
+      counts = one_counted s.found inner.found h.0.named.count v (heads.0.counted refl) within.counts;
     }
 
 -- a prim leaves the properties beside it as they were
@@ -167,7 +149,7 @@ same_beside (suc room) path counts s ts =
     on_ok (λ r. s.body ≡ r.0.body) (ended counts (path ++ h.0.named.name ∷ []) h.0 s b.0, b.1) refl))
 
 -- a prim that counts is kept with those below it
-counted : (room : ℕ) (Open : Path → Type 0) (path : Path) (counts : Bool) (s : Inside) (ts : Tokens) → IsWay Open room path → Worded ts → IsFound Open s.found → Leaves (Kept Open s) (prim room path counts s ts)
+counted : (room : ℕ) (Open : Path → Type 0) (path : Path) (counts : Bool) (s : Inside) (ts : Tokens) → IsWay Open path → Worded ts → IsFound Open s.found → Leaves (Kept Open s) (prim room path counts s ts)
 unfolding prim body
 counted zero Open path counts s ts way w f =
     on_then Whatever (Kept Open s) (head 0 counts s.found.count s.names ts) _ (on_any (head 0 counts s.found.count s.names ts)) (λ h _. on_ok (Kept Open s) (record s { names = h.0.named.names }, h.1) (leaves_same Open s (record s { names = h.0.named.names }) f refl refl))
@@ -178,22 +160,22 @@ counted (suc room) Open path true s ts way w f =
     on_then (Between (opened Open (path ++ h.0.named.name ∷ [])) (record s.found { count = h.0.named.count })) (Kept Open s)
     (all CloseCurly (item (prim room (path ++ h.0.named.name ∷ [])) true) (inside_new (record s.found { count = h.0.named.count })) h.1) _
     (items_keep (prim room (path ++ h.0.named.name ∷ [])) (opened Open (path ++ h.0.named.name ∷ [])) (record s.found { count = h.0.named.count })
-    (λ counts i us w f. counted room (opened Open (path ++ h.0.named.name ∷ [])) (path ++ h.0.named.name ∷ []) counts i us (longer_way Open room path h.0.named.name way heads.0.name) w f)
+    (λ counts i us w f. counted room (opened Open (path ++ h.0.named.name ∷ [])) (path ++ h.0.named.name ∷ []) counts i us (longer_way Open path h.0.named.name) w f)
     (prim_leaves Worded worded_goes_on room (path ++ h.0.named.name ∷ [])) h.1 (open_more Open (path ++ h.0.named.name ∷ []) s.found h.0.named.count f) heads.2)
-    (λ b between. on_ok (Kept Open s) (ended true (path ++ h.0.named.name ∷ []) h.0 s b.0, b.1) (ended_is Open room path h s b.0 way heads between.0)))
+    (λ b between. on_ok (Kept Open s) (ended true (path ++ h.0.named.name ∷ []) h.0 s b.0, b.1) (ended_is Open path h s b.0 way heads between.0)))
 
 root_keeps : (start : Found) (s : Inside) (ts : Tokens) → Between none_open start (s, ts) → Leaves (Between none_open start) (root_item s ts)
 unfolding root_item
 root_keeps start s ts h =
     on_either (Between none_open start) (is_prim ts) (prim 32 [] (not (is_word (codes "class") ts)) s (rest ts)) _
     (λ r e. (
-      after_prim none_open start s r.0 h.0 (counted 32 none_open [] (not (is_word (codes "class") ts)) s (rest ts) (record { above = inl refl; names = refl; size = refl }) (worded_goes_on ts h.1) h.0.found r e),
+      after_prim none_open start s r.0 h.0 (counted 32 none_open [] (not (is_word (codes "class") ts)) s (rest ts) (inl refl) (worded_goes_on ts h.1) h.0.found r e),
       prim_leaves Worded worded_goes_on 32 [] (not (is_word (codes "class") ts)) s (rest ts) (worded_goes_on ts h.1) r e,
     ))
     (on_fault (Between none_open start) (fault_at ts (if is_word (codes "reorder") ts then LeftOut else Syntax)))
 
 abbrev IsLayer : LayerSpec → Type 0
-IsLayer l = is_layer l ≡ true
+IsLayer l = (is_layer l ≡ true) × (has_kinds l ≡ true)
 
 layer_is : (ts : Tokens) → Worded ts → Leaves IsLayer (layer ts)
 unfolding layer nothing_found
@@ -201,9 +183,14 @@ layer_is ts w =
     on_then Worded IsLayer (metadata ts) _ (metadata_leaves Worded worded_goes_on ts w) (λ u words.
     on_then (Between none_open nothing_found) IsLayer (all End root_item (inside_new nothing_found) u) _
     (on_all (Between none_open nothing_found) End root_item (λ s us h. (h.0, worded_goes_on us h.1)) (root_keeps nothing_found) (inside_new nothing_found) u (begins_within none_open nothing_found nothing_is, words)) (λ r between.
-    on_ok IsLayer (layer_of r.0.found) (found_layer r.0.found between.0.found between.0.counts)))
+    on_ok IsLayer (layer_of r.0.found) (found_layer r.0.found between.0.found between.0.counts, found_kinds r.0.found between.0.found)))
 
 -- a layer that a function returned, where it was to be read from a text, is well formed
 pub layer_given : (r : Result LayerSpec LayerFault) (ts : Tokens) (line : ℕ) (bytes : List ℕ) → ts ≡ tokens_from line bytes → Gives (λ l. l) r (layer ts) → IfOk r (λ l. is_layer l ≡ true)
-layer_given (Ok l) ts line bytes from e = layer_is ts (subst Worded (sym from) (tokens_worded line bytes)) l e
+layer_given (Ok l) ts line bytes from e = (layer_is ts (subst Worded (sym from) (tokens_worded line bytes)) l e).0
 layer_given (Err fault) ts line bytes from e = tt
+
+-- and so are the types of its prims
+pub kinds_given : (r : Result LayerSpec LayerFault) (ts : Tokens) (line : ℕ) (bytes : List ℕ) → ts ≡ tokens_from line bytes → Gives (λ l. l) r (layer ts) → IfOk r (λ l. has_kinds l ≡ true)
+kinds_given (Ok l) ts line bytes from e = (layer_is ts (subst Worded (sym from) (tokens_worded line bytes)) l e).1
+kinds_given (Err fault) ts line bytes from e = tt

@@ -17,7 +17,7 @@ use Rattle.hd_usda.specs.Targets.{targets}
 use Rattle.hd_usda.specs.UsedValues.{used_value}
 use Rattle.hd_usda.specs.Items.{list_op, past_modifiers, own_type, pname, is_misnamed, is_misnamed_relation}
 use Rattle.hd_usda.specs.Statements.{equals, attribute_value, relation_value, admitted, named, relation, attribute, relation_or_attribute, ends, statement}
-use Rattle.hd_usda.specs.WellFormed.{is_property, has_value, has_form, is_list, is_path}
+use Rattle.hd_usda.specs.WellFormed.{is_property, has_value, has_form, is_list, is_below_root}
 use Rattle.hd_usda.proofs.Answering.{past_fault, Leaves, Whatever, on_then, on_either, on_ok, on_fault, on_any}
 use Rattle.hd_usda.proofs.WellFormedPaths.{targets_are}
 use Rattle.hd_usda.proofs.WellFormedValues.{used_value_is}
@@ -35,8 +35,8 @@ not_used None h = refl
 not_used (Some r) h = absurd (cc)
 
 -- a property of a relationship
-pub relation_is : (role : Option Role) (name : List ℕ) (ps : List (List (List ℕ))) → is_used role ≡ false → is_target_name name ≡ true → is_list is_path ps ≡ true → has_value role name (Paths ps) ≡ true
-relation_is role name ps unused target form = subst (λ o. has_value o name (Paths ps) ≡ true) (sym (not_used role unused)) (and_from (is_target_name name) (is_list is_path ps) target form)
+pub relation_is : (role : Option Role) (name : List ℕ) (ps : List (List (List ℕ))) → is_used role ≡ false → is_target_name name ≡ true → is_list is_below_root ps ≡ true → has_value role name (Paths ps) ≡ true
+relation_is role name ps unused target form = subst (λ o. has_value o name (Paths ps) ≡ true) (sym (not_used role unused)) (and_from (is_target_name name) (is_list is_below_root ps) target form)
 
 -- a property that is well formed, where there is one, with the tokens behind it
 abbrev Good : Option Property × Tokens → Type 0
@@ -52,7 +52,7 @@ attribute_value_is (Some role) name ts same = on_then (λ v. has_form role v.0 �
     (λ v form. on_ok (GoodAs name) (Some v.0, v.1) (attribute_is (role_of name) role name v.0 same form))
 
 relation_value_is : (used : Bool) (name : List ℕ) (ts : Tokens) → is_used (role_of name) ≡ false → is_target_name name ≡ used → Leaves (GoodAs name) (relation_value used ts)
-relation_value_is true name ts unused target = on_then (λ t. is_list is_path t.0 ≡ true) (GoodAs name) (targets ts) _ (λ t e. targets_are ts t.0 t.1 e)
+relation_value_is true name ts unused target = on_then (λ t. is_list is_below_root t.0 ≡ true) (GoodAs name) (targets ts) _ (λ t e. targets_are ts t.0 t.1 e)
     (λ t form. on_ok (GoodAs name) (Some (Paths t.0), t.1) (relation_is (role_of name) name t.0 unused target form))
 relation_value_is false name ts unused target = on_then Whatever (GoodAs name) (value 64 ts) _ (on_any (value 64 ts)) (λ u _. on_ok (GoodAs name) (None, u) tt)
 

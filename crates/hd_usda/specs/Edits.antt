@@ -1,14 +1,9 @@
 -- Edits that a layer may be handed.
-use Rattle.std.specs.Prelude.{length, Bool, true, ◌&&◌, nat_lt, Option, Some, None}
+use Rattle.std.specs.Prelude.{Bool, true, ◌&&◌, Option, Some, None}
 use Rattle.hd_usda.specs.declared.edit.Edit.{Edit}
 use Rattle.hd_usda.specs.declared.edit.Edit.TheVariants.{Define, Set, Clear, Remove, Rename}
 use Rattle.hd_usda.specs.declared.spec.Property.{Property}
-use Rattle.hd_usda.specs.Prims.{Path}
-use Rattle.hd_usda.specs.WellFormed.{is_property}
-
--- not the root
-abbrev pub is_below_root : Path → Bool
-is_below_root path = nat_lt 0 (length path)
+use Rattle.hd_usda.specs.WellFormed.{is_property, is_below_root}
 
 -- no property, or a used one whose value has its form
 abbrev pub may_be_set : Option Property → Bool

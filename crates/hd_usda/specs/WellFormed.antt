@@ -6,7 +6,7 @@ use Rattle.std.specs.Ordering.{is_eq, is_lt}
 use Rattle.hd_num.specs.declared.vector.Vec3.{Vec3}
 use Rattle.hd_num.specs.Matrices.{Rows}
 use Rattle.hd_path.specs.Names.{is_identifier}
-use Rattle.hd_usda.specs.declared.limits.Which.TheVariants.{Literal, Elements, Depth, Name, Prims}
+use Rattle.hd_usda.specs.declared.limits.Which.TheVariants.{Literal, Elements, Name, Prims}
 use Rattle.hd_usda.specs.declared.properties.Role.{Role}
 use Rattle.hd_usda.specs.declared.properties.Role.TheVariants as role
 use Rattle.hd_usda.specs.declared.spec.RawValue.{RawValue}
@@ -103,17 +103,13 @@ has_form role.Angles value = are_triples (is_single (each_of is_quarters)) value
 has_form role.Transform value = are_rows are_matrix_rows value
 has_form role.ByteColor value = are_triples (is_single (each_of is_small)) value
 
--- an identifier within the limit
-abbrev pub is_prim_name : List ℕ → Bool
-is_prim_name name = is_identifier name && nat_le (length name) (limit_of Name)
-
--- the path of a prim: one or more names, within the limit
-abbrev pub is_path : Path → Bool
-is_path path = nat_lt 0 (length path) && nat_le (length path) (limit_of Depth) && list_all is_prim_name path
+-- not the root, which is the path of no prim
+abbrev pub is_below_root : Path → Bool
+is_below_root path = nat_lt 0 (length path)
 
 -- the value of a property of this role, or of a relationship
 abbrev pub has_value : Option Role → List ℕ → RawValue → Bool
-has_value None name value = is_target_name name && are_paths (is_list is_path) value
+has_value None name value = is_target_name name && are_paths (is_list is_below_root) value
 has_value (Some role) name value = has_form role value
 
 -- a used property whose value has its form
@@ -125,13 +121,9 @@ abbrev pub are_distinct : List (List ℕ) → Bool
 are_distinct [] = true
 are_distinct (name ∷ names) = not (list_any (bytes_eq name) names) && are_distinct names
 
--- the type of a prim: none, or an identifier within the limit
-abbrev pub is_kind : List ℕ → Bool
-is_kind kind = bytes_eq kind [] || is_prim_name kind
-
 -- a prim of used properties, each of which stands once
 abbrev pub is_prim_spec : PrimSpec → Bool
-is_prim_spec p = is_path p.path && is_kind p.kind && list_all is_property p.properties && are_distinct (map (λ q. q.name) p.properties)
+is_prim_spec p = is_below_root p.path && list_all is_property p.properties && are_distinct (map (λ q. q.name) p.properties)
 
 -- each path comes before the next
 abbrev pub ascend : List Path → Bool
@@ -147,3 +139,15 @@ abbrev pub is_layer : LayerSpec → Bool
 is_layer l =
     let paths = map (λ p. p.path) l.prims in
     nat_le (length paths) (limit_of Prims) && list_all is_prim_spec l.prims && ascend paths && list_all (has_parent paths) paths
+
+-- an identifier within the limit
+abbrev pub is_prim_name : List ℕ → Bool
+is_prim_name name = is_identifier name && nat_le (length name) (limit_of Name)
+
+-- the type of a prim: none, or an identifier within the limit
+abbrev pub is_kind : List ℕ → Bool
+is_kind kind = bytes_eq kind [] || is_prim_name kind
+
+-- each prim's type is none, or an identifier within the limit
+abbrev pub has_kinds : LayerSpec → Bool
+has_kinds l = list_all (λ p. is_kind p.kind) l.prims

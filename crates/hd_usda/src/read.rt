@@ -3,7 +3,7 @@
 ghost use Rattle.std.specs.Prelude.{◌≡◌, Ok, IfOk, IfErr, IsTrue};
 ghost use Rattle.hd_usda.specs.Cursors.{Gives, Fails};
 ghost use Rattle.hd_usda.specs.Layers.{valid_text, ends_header, behind_header, reads};
-ghost use Rattle.hd_usda.specs.WellFormed.{is_layer};
+ghost use Rattle.hd_usda.specs.WellFormed.{is_layer, has_kinds};
 
 use crate::cursor::Cursor;
 use crate::fault::{LayerFault, LayerWhy};
@@ -53,7 +53,8 @@ fn behind_header(bytes: &[u8]) -> Result<&[u8], LayerFault>
 /// The layer that the bytes spell.
 ///
 /// It is well formed: its at most 65,536 paths ascend, each path but those of root prims has its parent, and each
-/// prim has used properties alone, each once, whose values have their form and are within their bounds.
+/// prim has used properties alone, each once, whose values have their form and are within their bounds. The type of
+/// each prim is none, or an identifier within the limit.
 ///
 /// # Errors
 ///
@@ -62,6 +63,7 @@ fn behind_header(bytes: &[u8]) -> Result<&[u8], LayerFault>
 pub fn read_layer(alloc: Global, bytes: &[u8]) -> Result<LayerSpec, LayerFault>
     ensures layer { IfOk result (λ layer. reads bytes.now ≡ Ok layer) }
     ensures well_formed { IfOk result (λ layer. IsTrue (is_layer layer)) }
+    ensures kinds { IfOk result (λ layer. IsTrue (has_kinds layer)) }
     ensures fault { IfErr result (λ fault. Fails fault (reads bytes.now)) }
 {
     let body = behind_header(valid_text(bytes)?)?;
