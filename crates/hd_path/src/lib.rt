@@ -10,6 +10,7 @@ mod token;
 
 pub use fault::PathFault;
 pub use laws::{order_is_that_of_texts, text_is_one_to_one};
+pub use names::{identifier_len, is_letter, is_word, word_len};
 pub use path::Path;
 pub use token::Token;
 

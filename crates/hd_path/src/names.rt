@@ -9,28 +9,31 @@ ghost use Rattle.hd_path.specs.Parsing.{pieces, names_at, parsed};
 use crate::fault::PathFault;
 use crate::{MAX_DEPTH, MAX_NAME_LEN};
 
-fn is_letter(byte: u8) -> bool
+/// Is the byte a letter of names: an ASCII letter, or an underscore?
+pub fn is_letter(byte: u8) -> bool
     ensures { result ≡ is_letter byte }
 {
     matches!(byte, b'A'..=b'Z' | b'a'..=b'z' | b'_')
 }
 
-fn is_word(byte: u8) -> bool
+/// May the byte stand in a name: a letter of names, or an ASCII digit?
+pub fn is_word(byte: u8) -> bool
     ensures { result ≡ is_word byte }
 {
     is_letter(byte) || byte.is_ascii_digit()
 }
 
-fn word_len(bytes: &[u8]) -> usize
+/// How many bytes at the front may stand in a name.
+pub fn word_len(bytes: &[u8]) -> usize
     ensures len { result ≡ prefix_len is_word bytes.now }
     ensures within { result ≤ length bytes.now }
 {
     bytes.iter().take_while(|byte| is_word(**byte)).count()
 }
 
-/// How many bytes at the front belong to an identifier.
+/// How many bytes at the front belong to an identifier: none where the first is no letter of names.
 #[tactic(auto, using(crate::proofs::Bytes::identifier_lens))]
-pub(crate) fn identifier_len(bytes: &[u8]) -> usize
+pub fn identifier_len(bytes: &[u8]) -> usize
     ensures len { result ≡ identifier_len bytes.now }
     ensures within { result ≤ length bytes.now }
 {

@@ -1,8 +1,8 @@
 //! What a word says.
 
-ghost use Rattle.std.specs.Prelude.{◌≡◌, ◌≤◌, length, IfOk, IsTrue};
-ghost use Rattle.std.specs.List.{list_all, prefix_len};
-ghost use Rattle.hd_path.specs.Names.{is_letter, is_digit, is_word, identifier_len};
+ghost use Rattle.std.specs.Prelude.{◌≡◌, IfOk, IsTrue};
+ghost use Rattle.std.specs.List.{list_all};
+ghost use Rattle.hd_path.specs.Names.{is_digit};
 ghost use Rattle.hd_usda.specs.Edits.{may_be_set};
 ghost use Rattle.hd_usda.specs.WellFormed.{is_below_root};
 ghost use Rattle.hd_usda.specs.Lexing.{begins};
@@ -12,32 +12,14 @@ ghost use Rattle.hd_script.specs.Fields.{is_number, number, within_frame, size, 
 ghost use Rattle.hd_script.specs.WellFormed.{is_size};
 
 use crate::fault::LineFault;
-use hd_path::{Path, PathFault, Token};
+use hd_path::{Path, PathFault, Token, identifier_len, is_word};
 use hd_usda::{LayerFault, LayerWhy, Property, Which, is_joined, read_property};
 use std::alloc::Global;
-
-fn is_letter(b: u8) -> bool
-    ensures { result ≡ is_letter b }
-{
-    b == b'_' || (b >= b'a' && b <= b'z') || (b >= b'A' && b <= b'Z')
-}
-
-fn is_digit(b: u8) -> bool
-    ensures { result ≡ is_digit b }
-{
-    b >= b'0' && b <= b'9'
-}
-
-fn is_word(b: u8) -> bool
-    ensures { result ≡ is_word b }
-{
-    is_letter(b) || is_digit(b)
-}
 
 fn are_digits(text: &[u8]) -> bool
     ensures { result ≡ list_all is_digit text.now }
 {
-    text.iter().all(|b| is_digit(*b))
+    text.iter().all(|b| b.is_ascii_digit())
 }
 
 fn is_number(text: &str) -> bool
@@ -118,24 +100,6 @@ pub fn file_name(alloc: Global, text: &str) -> Result<Token, LineFault>
         Ok(Token::new(alloc, text)?)
     } else {
         Err(LineFault::Syntax)
-    }
-}
-
-fn word_len(text: &[u8]) -> usize
-    ensures count { result ≡ prefix_len is_word text.now }
-    ensures bound { result ≤ length text.now }
-{
-    text.iter().take_while(|b| is_word(**b)).count()
-}
-
-/// How many bytes at the front belong to an identifier.
-fn identifier_len(text: &[u8]) -> usize
-    ensures count { result ≡ identifier_len text.now }
-    ensures bound { result ≤ length text.now }
-{
-    match text {
-        [] => 0,
-        [first, ..] => { if is_letter(*first) { word_len(text) } else { 0 } }
     }
 }
 

@@ -11,7 +11,8 @@ use Rattle.hd_path.specs.Names.{is_identifier, IsName}
 use Rattle.hd_path.specs.Paths.{IsPath, path_text, slashed}
 use Rattle.hd_path.proofs.Slashes.{slashed-pieces, is_slash_is}
 use Rattle.hd_path.specs.Parsing.{is_slash, pieces}
-use Rattle.hd_usda.specs.Targets.{are_identifiers, is_prim_path, is_long, has_long, names_of}
+use Rattle.hd_usda.specs.Targets.{are_identifiers, is_prim_path, has_long, names_of}
+use Rattle.hd_usda.specs.Names.{is_long}
 
 within : (n bound : ℕ) → nat_lt bound n ≡ false → n ≤ bound
 within n bound h = grind (arith, nat_tests)

@@ -2,7 +2,7 @@
 use Rattle.std.proofs.Common.{◌≡◌, ℕ, zero, suc, ◌<◌, [], ◌∷◌, ◌++◌, length, Bool, true, false, ◌&&◌, ◌||◌, not, ◌==◌, nat_lt, bytes_eq, codes, refl}
 use Rattle.hd_path.specs.Names.{is_identifier}
 use Rattle.hd_usda.specs.declared.lexer.Kind.TheVariants.{Word, Text, OpenCurly, CloseCurly, Semicolon}
-use Rattle.hd_usda.specs.declared.limits.Which.TheVariants.{Name}
+use Rattle.hd_usda.specs.declared.limits.Which.TheVariants.{Depth, Name}
 use Rattle.hd_usda.specs.Limits.{limit_of}
 use Rattle.hd_usda.specs.Lexing.{Tokens}
 use Rattle.hd_usda.specs.Cursors.{is, is_word, rest, count, text, line_of, take}
@@ -88,4 +88,4 @@ pub root_item_takes : (s : Inside) → Takes (root_item s)
 unfolding root_item
 root_item_takes s ts =
     chosen (Behind (count ts)) _ _ (is_prim ts)
-    (λ found. prim_keeps 32 [] (not (is_word (codes "class") ts)) s (count ts) (rest ts) (prim_found ts found)) (λ _. tt)
+    (λ found. prim_keeps (limit_of Depth) [] (not (is_word (codes "class") ts)) s (count ts) (rest ts) (prim_found ts found)) (λ _. tt)

@@ -7,6 +7,8 @@ use Rattle.hd_usda.specs.declared.fault.LayerFault.{LayerFault}
 use Rattle.hd_usda.specs.declared.fault.LayerWhy.TheVariants.{Syntax, LeftOut}
 use Rattle.hd_usda.specs.declared.spec.PrimSpec.{PrimSpec}
 use Rattle.hd_usda.specs.declared.spec.LayerSpec.{LayerSpec}
+use Rattle.hd_usda.specs.declared.limits.Which.TheVariants.{Depth}
+use Rattle.hd_usda.specs.Limits.{limit_of}
 use Rattle.hd_usda.specs.Lexing.{Tokens, tokens_from}
 use Rattle.hd_usda.specs.Cursors.{Fault, is_word, rest, fault_at, past_one, Gives}
 use Rattle.hd_usda.specs.Loops.{all}
@@ -167,10 +169,10 @@ counted (suc room) Open path true s ts way w f =
 root_keeps : (start : Found) (s : Inside) (ts : Tokens) → Between none_open start (s, ts) → Leaves (Between none_open start) (root_item s ts)
 unfolding root_item
 root_keeps start s ts h =
-    on_either (Between none_open start) (is_prim ts) (prim 32 [] (not (is_word (codes "class") ts)) s (rest ts)) _
+    on_either (Between none_open start) (is_prim ts) (prim (limit_of Depth) [] (not (is_word (codes "class") ts)) s (rest ts)) _
     (λ r e. (
-      after_prim none_open start s r.0 h.0 (counted 32 none_open [] (not (is_word (codes "class") ts)) s (rest ts) (inl refl) (worded_goes_on ts h.1) h.0.found r e),
-      prim_leaves Worded worded_goes_on 32 [] (not (is_word (codes "class") ts)) s (rest ts) (worded_goes_on ts h.1) r e,
+      after_prim none_open start s r.0 h.0 (counted (limit_of Depth) none_open [] (not (is_word (codes "class") ts)) s (rest ts) (inl refl) (worded_goes_on ts h.1) h.0.found r e),
+      prim_leaves Worded worded_goes_on (limit_of Depth) [] (not (is_word (codes "class") ts)) s (rest ts) (worded_goes_on ts h.1) r e,
     ))
     (on_fault (Between none_open start) (fault_at ts (if is_word (codes "reorder") ts then LeftOut else Syntax)))
 

@@ -4,10 +4,12 @@ use Rattle.std.proofs.lemmas.Bool.{and_from, or_parts}
 use Rattle.hd_usda.specs.declared.fault.LayerWhy.TheVariants.{LeftOut}
 use Rattle.hd_usda.specs.declared.lexer.Kind.TheVariants.{Equals}
 use Rattle.hd_usda.specs.declared.attribute.Tail.TheVariants.{Plain}
+use Rattle.hd_usda.specs.declared.limits.Which.TheVariants.{Nesting}
 use Rattle.hd_usda.specs.declared.properties.Role.{Role}
 use Rattle.hd_usda.specs.declared.spec.Property.{Property}
 use Rattle.hd_usda.specs.declared.spec.RawValue.{RawValue}
 use Rattle.hd_usda.specs.declared.spec.RawValue.TheVariants.{Paths}
+use Rattle.hd_usda.specs.Limits.{limit_of}
 use Rattle.hd_usda.specs.Lexing.{Tokens}
 use Rattle.hd_usda.specs.Cursors.{is_word, rest, fault_in, fault_at, take}
 use Rattle.hd_usda.specs.Values.{value}
@@ -47,14 +49,14 @@ abbrev GoodAs : List ℕ → Option RawValue × Tokens → Type 0
 GoodAs name q = IsProperty (named name q.0)
 
 attribute_value_is : (role : Option Role) (name : List ℕ) (ts : Tokens) → role_of name ≡ role → Leaves (GoodAs name) (attribute_value role ts)
-attribute_value_is None name ts same = on_then Whatever (GoodAs name) (value 64 ts) _ (on_any (value 64 ts)) (λ u _. on_ok (GoodAs name) (None, u) tt)
+attribute_value_is None name ts same = on_then Whatever (GoodAs name) (value (limit_of Nesting) ts) _ (on_any (value (limit_of Nesting) ts)) (λ u _. on_ok (GoodAs name) (None, u) tt)
 attribute_value_is (Some role) name ts same = on_then (λ v. has_form role v.0 ≡ true) (GoodAs name) (used_value role ts) _ (λ v e. used_value_is role ts v.0 v.1 e)
     (λ v form. on_ok (GoodAs name) (Some v.0, v.1) (attribute_is (role_of name) role name v.0 same form))
 
 relation_value_is : (used : Bool) (name : List ℕ) (ts : Tokens) → is_used (role_of name) ≡ false → is_target_name name ≡ used → Leaves (GoodAs name) (relation_value used ts)
 relation_value_is true name ts unused target = on_then (λ t. is_list is_below_root t.0 ≡ true) (GoodAs name) (targets ts) _ (λ t e. targets_are ts t.0 t.1 e)
     (λ t form. on_ok (GoodAs name) (Some (Paths t.0), t.1) (relation_is (role_of name) name t.0 unused target form))
-relation_value_is false name ts unused target = on_then Whatever (GoodAs name) (value 64 ts) _ (on_any (value 64 ts)) (λ u _. on_ok (GoodAs name) (None, u) tt)
+relation_value_is false name ts unused target = on_then Whatever (GoodAs name) (value (limit_of Nesting) ts) _ (on_any (value (limit_of Nesting) ts)) (λ u _. on_ok (GoodAs name) (None, u) tt)
 
 passes : (left_out : Bool) (line : ℕ) (ts : Tokens) → Leaves (λ _. left_out ≡ false) (admitted left_out line ts)
 passes left_out line ts u e = (past_fault left_out (fault_in line LeftOut) (Ok ts) e).0

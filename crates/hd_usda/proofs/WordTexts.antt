@@ -4,7 +4,8 @@ use Rattle.std.specs.List.{starts_with}
 use Rattle.hd_usda.specs.declared.lexer.Kind.{Kind}
 use Rattle.hd_usda.specs.declared.lexer.Kind.TheVariants.{Word, Number, Text, Asset, PathText, OpenRound, CloseRound, OpenSquare, CloseSquare, OpenCurly, CloseCurly, Equals, Comma, Colon, Semicolon, Point, Bad}
 use Rattle.hd_usda.specs.declared.lexer.Piece as coded
-use Rattle.hd_usda.specs.Lexing.{is_letter, is_sign, mark_of, Piece, spelled, no_piece, number_len, number_piece, signed_piece, inside_len, on_line, between_three, short_piece, long_piece, quoted, piece_at, tokens_from}
+use Rattle.hd_path.specs.Names.{is_letter}
+use Rattle.hd_usda.specs.Lexing.{is_sign, mark_of, Piece, spelled, no_piece, number_len, number_piece, signed_piece, inside_len, on_line, between_three, short_piece, long_piece, quoted, piece_at, tokens_from}
 use Rattle.hd_usda.specs.Cursors.{kind, is, same_kind}
 use Rattle.hd_usda.specs.Scanned.{IsFirst, front}
 use Rattle.hd_usda.proofs.Heading.{kind_is}

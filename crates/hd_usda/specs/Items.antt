@@ -1,15 +1,17 @@
 -- The properties of a prim.
-use Rattle.std.specs.Prelude.{ℕ, List, [], ◌∷◌, ◌++◌, Bool, true, false, ◌&&◌, ◌||◌, not, Option, Some, None, Result, Ok, Err, if◌then◌else◌, codes}
+use Rattle.std.specs.Prelude.{ℕ, ◌-◌, List, [], ◌∷◌, ◌++◌, Bool, true, false, ◌&&◌, ◌||◌, not, Option, Some, None, Result, Ok, Err, if◌then◌else◌, codes}
 use Rattle.std.specs.Ordering.{nat_cmp}
 use Rattle.std.specs.Cmp.Lexicographic.{slice_cmp}
 use Rattle.std.specs.FinSet.{FinSet, contains, insert}
 use Rattle.hd_usda.specs.declared.lexer.Kind.TheVariants.{Word, Number, OpenSquare, CloseSquare, OpenCurly, CloseCurly, Equals, Comma, Colon, Point}
 use Rattle.hd_usda.specs.declared.fault.LayerWhy.TheVariants.{Syntax, Twice, LeftOut}
+use Rattle.hd_usda.specs.declared.limits.Which.TheVariants.{Nesting}
 use Rattle.hd_usda.specs.declared.properties.Role.{Role}
 use Rattle.hd_usda.specs.declared.attribute.Tail.{Tail}
 use Rattle.hd_usda.specs.declared.attribute.Tail.TheVariants.{Plain, Connect, Samples, Other}
 use Rattle.hd_usda.specs.declared.spec.Property.{Property}
 use Rattle.hd_usda.specs.declared.spec.RawValue.TheVariants.{Paths}
+use Rattle.hd_usda.specs.Limits.{limit_of}
 use Rattle.hd_usda.specs.Lexing.{Tokens}
 use Rattle.hd_usda.specs.Cursors.{◌>>=◌, Fault, Past, Form, is, is_word, rest, text, line_of, fault_in, fault_at, take}
 use Rattle.hd_usda.specs.Loops.{past, chain}
@@ -85,7 +87,7 @@ with_value body property = record body { values = body.values ++ property ∷ []
 
 -- ["=" value], where nothing is kept
 unfoldable pub some_value : Past
-some_value ts = if is Equals ts then value 64 (rest ts) else Ok ts
+some_value ts = if is Equals ts then value (limit_of Nesting) (rest ts) else Ok ts
 
 -- ["=" targets] of a relationship that is used or not
 unfoldable pub relation_value : Bool → List ℕ → Body → Form Body
@@ -156,12 +158,12 @@ new_attribute Connect left_out p seen ts = new_name left_out (with_tail Connect 
 new_attribute Samples left_out p seen ts = new_name left_out (with_tail Samples p.name) p.line seen
 new_attribute Other left_out p seen ts = Err (no_tail left_out p.line ts)
 
--- NUMBER ":" value
+-- NUMBER ":" value, where one bracket is open
 unfoldable pub sample : Past
 sample ts = do
   u ← take Number ts
   v ← take Colon u
-  value 63 v
+  value (limit_of Nesting - 1) v
 
 -- "," [sample], where nothing but the end may stand in the place of the sample
 unfoldable pub next_sample : Past

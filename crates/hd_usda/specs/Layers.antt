@@ -1,20 +1,16 @@
 -- What the bytes of a text spell: a layer, or its first fault.
-use Rattle.std.specs.Prelude.{ℕ, List, [], ◌∷◌, length, take, drop, Bool, true, ◌&&◌, ◌||◌, ◌==◌, Result, Ok, Err, if◌then◌else◌, codes, nat_eq}
+use Rattle.std.specs.Prelude.{ℕ, List, [], ◌∷◌, length, take, drop, Bool, true, ◌&&◌, ◌==◌, Result, Ok, Err, if◌then◌else◌, codes, nat_eq}
 use Rattle.std.specs.List.{starts_with}
 use Rattle.std.specs.Str.Lossy.{utf8_valid_len}
 use Rattle.hd_usda.specs.declared.fault.LayerWhy.TheVariants.{Header, NotUtf8}
 use Rattle.hd_usda.specs.declared.spec.LayerSpec.{LayerSpec}
-use Rattle.hd_usda.specs.Lexing.{tokens_from, line_over}
+use Rattle.hd_usda.specs.Lexing.{is_space, tokens_from, line_over}
 use Rattle.hd_usda.specs.Cursors.{◌>>=◌, Fault, fault_in}
 use Rattle.hd_usda.specs.Prims.{layer}
 
 -- the bytes are UTF-8, or the fault stands at the first byte that begins no valid sequence
 unfoldable pub valid_text : List ℕ → Result (List ℕ) Fault
 valid_text bytes = if utf8_valid_len bytes == length bytes then Ok bytes else Err (fault_in (line_over 1 (take (utf8_valid_len bytes) bytes)) NotUtf8)
-
--- white space
-abbrev pub is_space : ℕ → Bool
-is_space b = (b == 32) || (b == 9) || (b == 13) || (b == 10)
 
 -- the bytes are at their end, or go on with white space
 abbrev pub ends_header : List ℕ → Bool

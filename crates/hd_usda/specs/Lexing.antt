@@ -2,19 +2,9 @@
 use Rattle.std.specs.Prelude.{ℕ, zero, suc, ◌+◌, ◌-◌, ◌∷◌, [], List, Bool, true, false, ◌||◌, ◌&&◌, not, nat_eq, nat_lt, ◌==◌, if◌then◌else◌, Option, Some, None, take, drop, fold, codes}
 use Rattle.std.specs.List.{prefix_len, starts_with}
 use Rattle.std.specs.Str.{bytes_eq}
-use Rattle.hd_path.specs.Names as names
+use Rattle.hd_path.specs.Names.{is_letter, is_digit, is_word}
 use Rattle.hd_usda.specs.declared.lexer.Kind.{Kind}
 use Rattle.hd_usda.specs.declared.lexer.Kind.TheVariants.{Word, Number, Text, Asset, PathText, OpenRound, CloseRound, OpenSquare, CloseSquare, OpenCurly, CloseCurly, Equals, Comma, Colon, Semicolon, Point, Bad}
-
--- letters, digits, and what may follow the first letter of a word, as in names
-abbrev pub is_letter : ℕ → Bool
-is_letter b = names.is_letter b
-
-abbrev pub is_digit : ℕ → Bool
-is_digit b = names.is_digit b
-
-abbrev pub is_word : ℕ → Bool
-is_word b = names.is_word b
 
 -- a plus or a minus
 abbrev pub is_sign : ℕ → Bool
@@ -24,9 +14,13 @@ is_sign b = (b == 43) || (b == 45)
 abbrev pub is_exponent : ℕ → Bool
 is_exponent b = (b == 101) || (b == 69)
 
+-- white space
+abbrev pub is_space : ℕ → Bool
+is_space b = (b == 32) || (b == 9) || (b == 13) || (b == 10)
+
 -- white space, or the begin of a comment
 abbrev pub is_blank : ℕ → Bool
-is_blank b = (b == 32) || (b == 9) || (b == 13) || (b == 10) || (b == 35)
+is_blank b = is_space b || (b == 35)
 
 -- what a comment may hold: no line feed
 abbrev pub is_comment : ℕ → Bool

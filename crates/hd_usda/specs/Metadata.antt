@@ -1,9 +1,11 @@
 -- Metadata, of which nothing is kept.
-use Rattle.std.specs.Prelude.{ℕ, List, [], ◌∷◌, Bool, ◌||◌, ◌&&◌, Ok, Err, if◌then◌else◌, codes}
+use Rattle.std.specs.Prelude.{ℕ, ◌-◌, List, [], ◌∷◌, Bool, ◌||◌, ◌&&◌, Ok, Err, if◌then◌else◌, codes}
 use Rattle.std.specs.Str.{bytes_eq}
 use Rattle.std.specs.List.{list_any}
 use Rattle.hd_usda.specs.declared.lexer.Kind.TheVariants.{Word, Number, Text, OpenRound, CloseRound, Equals, Semicolon}
 use Rattle.hd_usda.specs.declared.fault.LayerWhy.TheVariants.{LeftOut}
+use Rattle.hd_usda.specs.declared.limits.Which.TheVariants.{Nesting}
+use Rattle.hd_usda.specs.Limits.{limit_of}
 use Rattle.hd_usda.specs.Lexing.{Tokens}
 use Rattle.hd_usda.specs.Cursors.{◌>>=◌, Past, is, is_word, rest, text, line_of, fault_in, fault_at, take, past_one}
 use Rattle.hd_usda.specs.Loops.{past}
@@ -25,13 +27,13 @@ left_out_keys = codes "references" ∷ codes "payload" ∷ codes "inherits" ∷ 
 unfoldable pub is_off : Tokens → Bool
 is_off ts = is_word (codes "false") ts || (is Number ts && bytes_eq (text ts) (codes "0"))
 
--- behind its key, which stands in this line: "=" value
+-- behind its key, which stands in this line: "=" value, where one bracket is open
 unfoldable pub behind_key : List ℕ → ℕ → Past
 behind_key key line ts =
     if is_any left_out_keys key then Err (fault_in line LeftOut)
     else (do
       u ← take Equals ts
-      if bytes_eq key (codes "active") && is_off u then Err (fault_at u LeftOut) else value 63 u)
+      if bytes_eq key (codes "active") && is_off u then Err (fault_at u LeftOut) else value (limit_of Nesting - 1) u)
 
 -- [listop] WORD "=" value, where a list op stands before a word alone
 unfoldable pub keyed : Past

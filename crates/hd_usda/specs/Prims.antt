@@ -1,5 +1,5 @@
 -- The layer: prims, their properties, and prims below them.
-use Rattle.std.specs.Prelude.{ℕ, zero, suc, ◌+◌, List, [], ◌∷◌, ◌++◌, length, map, Bool, false, ◌&&◌, ◌||◌, not, ◌==◌, nat_lt, nat_le, Result, Ok, Err, if◌then◌else◌, codes}
+use Rattle.std.specs.Prelude.{ℕ, zero, suc, ◌+◌, List, [], ◌∷◌, ◌++◌, map, Bool, false, ◌&&◌, ◌||◌, not, ◌==◌, nat_le, Result, Ok, Err, if◌then◌else◌, codes}
 use Rattle.std.specs.FinSet.{empty}
 use Rattle.std.specs.BTreeMap.{insert_entry}
 use Rattle.hd_path.specs.Paths.{path_cmp}
@@ -15,6 +15,7 @@ use Rattle.hd_usda.specs.Cursors.{◌>>=◌, Fault, Form, is, is_word, rest, tex
 use Rattle.hd_usda.specs.Loops.{all}
 use Rattle.hd_usda.specs.Metadata.{metadata}
 use Rattle.hd_usda.specs.Items.{Seen, Body, new_name, property}
+use Rattle.hd_usda.specs.Names.{is_long}
 
 -- a path is the list of its names
 abbrev pub Path : Type 0
@@ -45,7 +46,7 @@ is_prim ts = is_word (codes "def") ts || is_word (codes "over") ts || is_word (c
 -- the type of a prim, which may be missing
 unfoldable pub prim_type : Form (List ℕ)
 prim_type ts =
-    if is Word ts then (if nat_lt (limit_of Name) (length (text ts)) then Err (fault_at ts (Limit Name)) else Ok (text ts, rest ts))
+    if is Word ts then (if is_long (text ts) then Err (fault_at ts (Limit Name)) else Ok (text ts, rest ts))
     else Ok ([], ts)
 
 -- the next token is the name of a prim
@@ -69,7 +70,7 @@ unfoldable pub prim_name : ℕ → Bool → ℕ → Seen → Form Named
 prim_name room counts count names ts =
     if not (is_name ts) then Err (fault_at ts Syntax)
     else (if room == 0 then Err (fault_at ts (Limit Depth))
-    else (if nat_lt (limit_of Name) (length (text ts)) then Err (fault_at ts (Limit Name))
+    else (if is_long (text ts) then Err (fault_at ts (Limit Name))
     else (do
       n ← next_count counts (line_of ts) count
       seen ← new_name false (text ts) (line_of ts) names
@@ -136,7 +137,7 @@ prim (suc room) path counts s ts = do
 -- what stands at the root: prims alone
 unfoldable pub root_item : Inside → Form Inside
 root_item s ts =
-    if is_prim ts then prim 32 [] (not (is_word (codes "class") ts)) s (rest ts)
+    if is_prim ts then prim (limit_of Depth) [] (not (is_word (codes "class") ts)) s (rest ts)
     else Err (fault_at ts (if is_word (codes "reorder") ts then LeftOut else Syntax))
 
 -- the prims of a layer, in the order of their paths

@@ -3,10 +3,12 @@ use Rattle.std.specs.Prelude.{ℕ, List, Bool, Option, Some, None, Result, Ok, E
 use Rattle.hd_usda.specs.declared.lexer.Kind.TheVariants.{Word, Equals, Point, End}
 use Rattle.hd_usda.specs.declared.fault.LayerWhy.TheVariants.{Syntax, LeftOut}
 use Rattle.hd_usda.specs.declared.attribute.Tail.TheVariants.{Plain}
+use Rattle.hd_usda.specs.declared.limits.Which.TheVariants.{Nesting}
 use Rattle.hd_usda.specs.declared.properties.Role.{Role}
 use Rattle.hd_usda.specs.declared.spec.Property.{Property}
 use Rattle.hd_usda.specs.declared.spec.RawValue.{RawValue}
 use Rattle.hd_usda.specs.declared.spec.RawValue.TheVariants.{Paths}
+use Rattle.hd_usda.specs.Limits.{limit_of}
 use Rattle.hd_usda.specs.Lexing.{Tokens, tokens_from}
 use Rattle.hd_usda.specs.Cursors.{◌>>=◌, Fault, Past, Form, is, is_word, rest, fault_in, fault_at, take}
 use Rattle.hd_usda.specs.Values.{value}
@@ -22,12 +24,12 @@ equals ts = if is Point ts then Err (fault_at (rest ts) (if is Word (rest ts) th
 
 -- a value of an attribute of this role, or of one that is not used
 abbrev pub attribute_value : Option Role → Form (Option RawValue)
-attribute_value None ts = value 64 ts >>= λ u. Ok (None, u)
+attribute_value None ts = value (limit_of Nesting) ts >>= λ u. Ok (None, u)
 attribute_value (Some role) ts = used_value role ts >>= λ v. Ok (Some v.0, v.1)
 
 -- a value of a relationship that is used or not
 abbrev pub relation_value : Bool → Form (Option RawValue)
-relation_value used ts = if used then (targets ts >>= λ t. Ok (Some (Paths t.0), t.1)) else (value 64 ts >>= λ u. Ok (None, u))
+relation_value used ts = if used then (targets ts >>= λ t. Ok (Some (Paths t.0), t.1)) else (value (limit_of Nesting) ts >>= λ u. Ok (None, u))
 
 -- a name, which is left out or not
 abbrev pub admitted : Bool → ℕ → Past

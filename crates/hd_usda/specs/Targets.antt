@@ -1,5 +1,5 @@
 -- The paths of used relationships.
-use Rattle.std.specs.Prelude.{ℕ, List, [], ◌∷◌, length, Bool, false, ◌&&◌, not, nat_lt, drop, count_by, Result, Ok, Err, if◌then◌else◌, codes}
+use Rattle.std.specs.Prelude.{ℕ, List, [], ◌∷◌, Bool, false, ◌&&◌, not, nat_lt, drop, count_by, Result, Ok, Err, if◌then◌else◌, codes}
 use Rattle.std.specs.List.{list_all, list_any}
 use Rattle.hd_usda.specs.declared.lexer.Kind.TheVariants.{PathText}
 use Rattle.hd_usda.specs.declared.fault.LayerWhy.{LayerWhy}
@@ -10,6 +10,7 @@ use Rattle.hd_path.specs.Names.{is_identifier}
 use Rattle.hd_path.specs.Parsing.{is_slash, pieces}
 use Rattle.hd_usda.specs.Cursors.{◌>>=◌, Fault, Form, is, is_word, rest, text, line_of, fault_in, take}
 use Rattle.hd_usda.specs.Elements.{Reads, list_of}
+use Rattle.hd_usda.specs.Names.{is_long}
 
 abbrev pub no_slash : ℕ → Bool
 no_slash b = not (is_slash b)
@@ -22,9 +23,6 @@ are_identifiers text = list_all is_identifier (pieces text)
 abbrev pub is_prim_path : List ℕ → Bool
 is_prim_path [] = false
 is_prim_path (b ∷ bs) = is_slash b && are_identifiers bs
-
-abbrev pub is_long : List ℕ → Bool
-is_long name = nat_lt (limit_of Name) (length name)
 
 -- one of what stands between slashes is longer than a name may be
 abbrev pub has_long : List ℕ → Bool

@@ -121,7 +121,7 @@ abbrev pub are_distinct : List (List ℕ) → Bool
 are_distinct [] = true
 are_distinct (name ∷ names) = not (list_any (bytes_eq name) names) && are_distinct names
 
--- a prim of used properties, each of which stands once
+-- a prim below the root, of used properties, each of which stands once
 abbrev pub is_prim_spec : PrimSpec → Bool
 is_prim_spec p = is_below_root p.path && list_all is_property p.properties && are_distinct (map (λ q. q.name) p.properties)
 

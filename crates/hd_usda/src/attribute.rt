@@ -11,6 +11,7 @@ ghost use Rattle.hd_usda.specs.Bodies.{joined_view, lead_view, body_view};
 use crate::cursor::Cursor;
 use crate::fault::{LayerFault, LayerWhy};
 use crate::lexer::Kind;
+use crate::limits::Which;
 use crate::metadata::metadata;
 use crate::properties::{Role, allows, is_target_name, role_of};
 use crate::property::{Body, Joined, keep, new_name, own_type, pname, some_value};
@@ -148,7 +149,8 @@ fn sample(cursor: &mut Cursor) -> Result<(), LayerFault>
 {
     cursor.take(Kind::Number)?;
     cursor.take(Kind::Colon)?;
-    value(cursor, 63)
+    // One bracket is open already.
+    value(cursor, Which::Nesting.number() - 1)
 }
 
 #[tactic(auto, unfolding(crate::specs::Items::next_sample))]

@@ -2,8 +2,11 @@
 
 ghost use Rattle.std.specs.Prelude.{◌≡◌, ◌≤◌, ◌+◌, ◌<◌, length, take, drop, codes, nat_eq, IfSome, IsTrue};
 ghost use Rattle.std.specs.List.{prefix_len, starts_with};
-ghost use Rattle.hd_usda.specs.Lexing.{is_letter, is_digit, is_word, is_sign, is_exponent, is_blank, is_comment, mark_of, spelled, no_piece, word_kind, word_piece, fraction_len, sign_len, exponent_len, mantissa_len, number_len, number_piece, signed_piece, inside_len, on_line, between_three, short_piece, quoted, line_after, line_over, blank_more, tokens_from};
+ghost use Rattle.hd_path.specs.Names.{is_digit};
+ghost use Rattle.hd_usda.specs.Lexing.{is_sign, is_exponent, is_space, is_blank, is_comment, mark_of, spelled, no_piece, word_kind, word_piece, fraction_len, sign_len, exponent_len, mantissa_len, number_len, number_piece, signed_piece, inside_len, on_line, between_three, short_piece, quoted, line_after, line_over, blank_more, tokens_from};
 ghost use Rattle.hd_usda.specs.Scanned.{seen, quoting, front, BeginsToken};
+
+use hd_path::{is_letter, word_len};
 
 /// What a token is.
 #[derive(Clone, Copy, Debug, PartialEq, Eq)]
@@ -50,26 +53,7 @@ struct Quoting<'a> {
     escapes: bool,
 }
 
-pub fn is_letter(b: u8) -> bool
-    ensures { result ≡ is_letter b }
-{
-    (b >= b'A' && b <= b'Z') || (b >= b'a' && b <= b'z') || b == b'_'
-}
-
-pub fn is_digit(b: u8) -> bool
-    ensures { result ≡ is_digit b }
-{
-    b >= b'0' && b <= b'9'
-}
-
-/// May the byte follow the first letter of a word?
-pub fn is_word(b: u8) -> bool
-    ensures { result ≡ is_word b }
-{
-    is_letter(b) || is_digit(b)
-}
-
-pub fn is_sign(b: u8) -> bool
+fn is_sign(b: u8) -> bool
     ensures { result ≡ is_sign b }
 {
     b == b'+' || b == b'-'
@@ -81,11 +65,18 @@ fn is_exponent(b: u8) -> bool
     b == b'e' || b == b'E'
 }
 
+/// Is the byte white space?
+pub fn is_space(b: u8) -> bool
+    ensures { result ≡ is_space b }
+{
+    b == b' ' || b == b'\t' || b == b'\r' || b == b'\n'
+}
+
 /// White space, or the begin of a comment.
 fn is_blank(b: u8) -> bool
     ensures { result ≡ is_blank b }
 {
-    b == b' ' || b == b'\t' || b == b'\r' || b == b'\n' || b == b'#'
+    is_space(b) || b == b'#'
 }
 
 /// The kind of a token of one byte.
@@ -108,19 +99,11 @@ fn mark_of(b: u8) -> Kind
     }
 }
 
-/// How many bytes of a word follow.
-fn word_len(bytes: &[u8]) -> usize
-    ensures count { result ≡ prefix_len is_word bytes.now }
-    ensures bound { result ≤ length bytes.now }
-{
-    bytes.iter().take_while(|b| is_word(**b)).count()
-}
-
 pub fn digits_len(bytes: &[u8]) -> usize
     ensures count { result ≡ prefix_len is_digit bytes.now }
     ensures bound { result ≤ length bytes.now }
 {
-    bytes.iter().take_while(|b| is_digit(**b)).count()
+    bytes.iter().take_while(|b| b.is_ascii_digit()).count()
 }
 
 /// How many bytes stand before the end of the line.

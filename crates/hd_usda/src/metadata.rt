@@ -10,6 +10,7 @@ ghost use Rattle.hd_usda.specs.Metadata.{is_any, list_ops, left_out_keys, is_off
 use crate::cursor::Cursor;
 use crate::fault::{LayerFault, LayerWhy};
 use crate::lexer::Kind;
+use crate::limits::Which;
 use crate::value::value;
 
 /// May the word stand before a key or a property?
@@ -67,7 +68,8 @@ fn behind_key(cursor: &mut Cursor, key: &[u8], line: u32) -> Result<(), LayerFau
     if is_active(key) && is_off(cursor) {
         return Err(cursor.fault(LayerWhy::LeftOut));
     }
-    value(cursor, 63)
+    // One bracket is open already.
+    value(cursor, Which::Nesting.number() - 1)
 }
 
 /// Reads an entry with a key.

@@ -1,11 +1,13 @@
 //! Prims, their properties, and prims below them.
 
-ghost use Rattle.std.specs.Prelude.{◌≡◌, ◌≤◌, ◌<◌, ◌+◌, ◌∷◌, ◌++◌, [], nat_lt, length, IsAscii, OnOk, IfOk, IfErr};
+ghost use Rattle.std.specs.Prelude.{◌≡◌, ◌≤◌, ◌<◌, ◌+◌, ◌∷◌, ◌++◌, [], length, IsAscii, OnOk, IfOk, IfErr};
 ghost use Rattle.hd_usda.specs.declared.fault.LayerFault.TheVariants.{NoMemory};
 ghost use Rattle.hd_usda.specs.declared.lexer.Kind.TheVariants.{CloseCurly, End};
+ghost use Rattle.hd_usda.specs.declared.limits.Which.TheVariants.{Depth};
 ghost use Rattle.std.specs.FinSet.{empty};
 ghost use Rattle.hd_path.specs.Names.{IsName};
 ghost use Rattle.hd_usda.specs.Cursors.{count, Gives};
+ghost use Rattle.hd_usda.specs.Limits.{limit_of};
 ghost use Rattle.hd_usda.specs.Loops.{all};
 ghost use Rattle.hd_usda.specs.Prims.{empty_body, is_prim, prim_type, is_name, next_count, prim_name, head, with_prim, property_item, item, body, prim, root_item, layer_of, layer};
 ghost use Rattle.hd_usda.specs.declared.prims.Found.{Found};
@@ -21,7 +23,7 @@ use crate::property::{Body, new_name, property};
 use crate::seen::Seen;
 use crate::spec::{LayerSpec, PrimSpec, Property};
 use crate::text::{as_text, as_token, no_memory};
-use crate::words::is_identifier;
+use crate::words::{is_identifier, is_long};
 use hd_num::List;
 use hd_path::Path;
 use std::alloc::{AllocError, Global};
@@ -85,12 +87,6 @@ fn is_prim(cursor: &Cursor) -> bool
     cursor.is_word(b"def") || cursor.is_word(b"over") || cursor.is_word(b"class")
 }
 
-fn is_long(name: &[u8]) -> bool
-    ensures { result ≡ nat_lt 64 (length name.now) }
-{
-    name.len() as u64 > Which::Name.number()
-}
-
 /// Reads the type of a prim, which may be missing.
 #[tactic(auto, unfolding(crate::specs::Prims::prim_type))]
 fn prim_type<'a>(cursor: &mut Cursor<'a>) -> Result<&'a [u8], LayerFault>
@@ -137,7 +133,7 @@ fn next_count(counts: bool, line: u32, before: u64) -> Result<u64, LayerFault>
 fn prim_name<'a>(
     alloc: Global,
     cursor: &mut Cursor<'a>,
-    room: u8,
+    room: u64,
     counts: bool,
     before: u64,
     names: &mut Seen,
@@ -169,7 +165,7 @@ fn prim_name<'a>(
 fn prim_head<'a>(
     alloc: Global,
     cursor: &mut Cursor<'a>,
-    room: u8,
+    room: u64,
     counts: bool,
     before: u64,
     names: &mut Seen,
@@ -189,7 +185,7 @@ fn prim_head<'a>(
 /// The path with one more name.
 fn longer(alloc: Global, path: &Path, name: &[u8]) -> Result<Path, LayerFault>
     requires name { IsName name.now }
-    requires room { length path.now < 32 }
+    requires room { length path.now < limit_of Depth }
     ensures longer { IfOk result (λ own. own ≡ path.now ++ name.now ∷ []) }
     ensures memory { IfErr result (λ fault. fault ≡ NoMemory) }
 {
@@ -257,13 +253,13 @@ fn property_item(
 fn item(
     alloc: Global,
     cursor: &mut Cursor,
-    room: u8,
+    room: u64,
     path: &Path,
     counts: bool,
     inside: &mut Inside,
     found: &mut Found,
 ) -> Result<(), LayerFault>
-    requires { length path.now + room ≤ 32 }
+    requires { length path.now + room ≤ limit_of Depth }
     ensures gives { Gives (λ _. (inside_view inside.new found.new, cursor.new)) result (item (prim room path.now) counts (inside_view inside.old found.old) cursor.old) }
     ensures fewer { OnOk result (count cursor.new < count cursor.old) }
 {
@@ -294,13 +290,13 @@ fn item(
 fn items(
     alloc: Global,
     cursor: &mut Cursor,
-    room: u8,
+    room: u64,
     path: &Path,
     counts: bool,
     inside: &mut Inside,
     found: &mut Found,
 ) -> Result<(), LayerFault>
-    requires { length path.now + room ≤ 32 }
+    requires { length path.now + room ≤ limit_of Depth }
     ensures gives { Gives (λ _. (inside_view inside.new found.new, cursor.new)) result (all CloseCurly (item (prim room path.now) counts) (inside_view inside.old found.old) cursor.old) }
     ensures fewer { OnOk result (count cursor.new < count cursor.old) }
 {
@@ -316,12 +312,12 @@ fn items(
 fn body(
     alloc: Global,
     cursor: &mut Cursor,
-    room: u8,
+    room: u64,
     path: &Path,
     counts: bool,
     found: &mut Found,
 ) -> Result<Inside, LayerFault>
-    requires { length path.now + room ≤ 32 }
+    requires { length path.now + room ≤ limit_of Depth }
     ensures gives { Gives (λ inside. (inside_view inside found.new, cursor.new)) result (body (prim room path.now) counts (found_view found.old) cursor.old) }
     ensures fewer { OnOk result (count cursor.new < count cursor.old) }
 {
@@ -336,13 +332,13 @@ fn body(
 fn one_prim(
     alloc: Global,
     cursor: &mut Cursor,
-    room: u8,
+    room: u64,
     path: &Path,
     counts: bool,
     inside: &mut Inside,
     found: &mut Found,
 ) -> Result<(), LayerFault>
-    requires { length path.now + room ≤ 32 }
+    requires { length path.now + room ≤ limit_of Depth }
     ensures gives { Gives (λ _. (inside_view inside.new found.new, cursor.new)) result (prim room path.now counts (inside_view inside.old found.old) cursor.old) }
     ensures fewer { OnOk result (count cursor.new < count cursor.old) }
 {
@@ -377,7 +373,8 @@ fn root_item(
     if is_prim(cursor) {
         let is_class = cursor.is_word(b"class");
         cursor.next();
-        one_prim(alloc, cursor, 32, &Path::root(), !is_class, inside, found)
+        let room = Which::Depth.number();
+        one_prim(alloc, cursor, room, &Path::root(), !is_class, inside, found)
     } else if cursor.is_word(b"reorder") {
         Err(cursor.fault(LayerWhy::LeftOut))
     } else {

@@ -13,6 +13,7 @@ use crate::attribute::attribute;
 use crate::cursor::Cursor;
 use crate::fault::{LayerFault, LayerWhy};
 use crate::lexer::Kind;
+use crate::limits::Which;
 use crate::metadata::{is_list_op, metadata};
 use crate::properties::{is_target_name, role_of};
 use crate::seen::Seen;
@@ -180,7 +181,7 @@ pub fn some_value(cursor: &mut Cursor) -> Result<(), LayerFault>
     ensures fewer { OnOk result (count cursor.new ≤ count cursor.old) }
 {
     if cursor.passes(Kind::Equals) {
-        value(cursor, 64)?;
+        value(cursor, Which::Nesting.number())?;
     }
     Ok(())
 }

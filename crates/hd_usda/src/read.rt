@@ -7,7 +7,7 @@ ghost use Rattle.hd_usda.specs.WellFormed.{is_layer, has_kinds};
 
 use crate::cursor::Cursor;
 use crate::fault::{LayerFault, LayerWhy};
-use crate::lexer::line_over;
+use crate::lexer::{is_space, line_over};
 use crate::prims::layer;
 use crate::spec::LayerSpec;
 use std::alloc::Global;
@@ -31,7 +31,7 @@ fn ends_header(bytes: &[u8]) -> bool
 {
     match bytes {
         [] => true,
-        [b, ..] => *b == b' ' || *b == b'\t' || *b == b'\r' || *b == b'\n',
+        [b, ..] => is_space(*b),
     }
 }
 

@@ -11,6 +11,7 @@ use crate::attribute::{Lead, Tail, is_misnamed};
 use crate::cursor::Cursor;
 use crate::fault::{LayerFault, LayerWhy};
 use crate::lexer::Kind;
+use crate::limits::Which;
 use crate::metadata::metadata;
 use crate::properties::{Role, is_target_name, role_of};
 use crate::property::{is_misnamed_relation, list_op, own_type, pass_modifiers, pname};
@@ -47,7 +48,7 @@ fn attribute_value(
 {
     match role {
         None => {
-            value(cursor, 64)?;
+            value(cursor, Which::Nesting.number())?;
             Ok(None)
         }
         Some(role) => {
@@ -69,7 +70,7 @@ fn relation_value(
         let paths = targets(alloc, cursor)?;
         Ok(Some(RawValue::Paths(paths)))
     } else {
-        value(cursor, 64)?;
+        value(cursor, Which::Nesting.number())?;
         Ok(None)
     }
 }

@@ -4,8 +4,10 @@ ghost use Rattle.std.specs.Prelude.{◌≡◌, ◌≤◌, ◌<◌, true, false, 
 ghost use Rattle.std.specs.List.{prefix_len};
 ghost use Rattle.hd_path.specs.Parsing.{is_slash};
 ghost use Rattle.hd_usda.specs.declared.fault.LayerFault.TheVariants.{NoMemory};
+ghost use Rattle.hd_usda.specs.declared.limits.Which.TheVariants.{Depth};
 ghost use Rattle.hd_usda.specs.Cursors.{count, Gives};
-ghost use Rattle.hd_usda.specs.Targets.{no_slash, are_identifiers, is_prim_path, is_long, has_long, names_of, path_in, beyond_list, target, one_target, in_list, targets};
+ghost use Rattle.hd_usda.specs.Limits.{limit_of};
+ghost use Rattle.hd_usda.specs.Targets.{no_slash, are_identifiers, is_prim_path, has_long, names_of, path_in, beyond_list, target, one_target, in_list, targets};
 
 use crate::cursor::Cursor;
 use crate::elements::{Element, list_of};
@@ -13,7 +15,7 @@ use crate::fault::{LayerFault, LayerWhy};
 use crate::lexer::Kind;
 use crate::limits::Which;
 use crate::text::{as_text, no_memory};
-use crate::words::is_identifier;
+use crate::words::{is_identifier, is_long};
 use hd_num::List;
 use hd_path::Path;
 use std::alloc::Global;
@@ -58,12 +60,6 @@ fn slash_count(text: &[u8]) -> usize
     text.iter().filter(|b| **b == b'/').count()
 }
 
-fn is_long(name: &[u8]) -> bool
-    ensures { result ≡ is_long name.now }
-{
-    name.len() as u64 > Which::Name.number()
-}
-
 /// Is a name longer than it may be?
 fn has_long(text: &[u8]) -> bool
     ensures { result ≡ has_long text.now }
@@ -84,7 +80,7 @@ fn has_long(text: &[u8]) -> bool
 /// The path that a text spells, which is one within the limits.
 fn spelled(alloc: Global, text: &[u8]) -> Result<Path, LayerFault>
     requires path { is_prim_path text.now ≡ true }
-    requires shallow { nat_lt 32 (count_by is_slash text.now) ≡ false }
+    requires shallow { nat_lt (limit_of Depth) (count_by is_slash text.now) ≡ false }
     requires short { has_long text.now ≡ false }
     ensures path { IfOk result (λ path. path ≡ names_of text.now) }
     ensures memory { IfErr result (λ fault. fault ≡ NoMemory) }

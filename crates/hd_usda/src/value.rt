@@ -13,7 +13,7 @@ use crate::limits::Which;
 
 /// Passes a type.
 #[tactic(auto, unfolding(crate::specs::Values::type_name))]
-pub fn type_name(cursor: &mut Cursor) -> Result<(), LayerFault>
+fn type_name(cursor: &mut Cursor) -> Result<(), LayerFault>
     ensures gives { Gives (λ _. cursor.new) result (type_name cursor.old) }
     ensures fewer { OnOk result (count cursor.new < count cursor.old) }
 {
@@ -58,7 +58,7 @@ fn key(cursor: &mut Cursor) -> Result<(), LayerFault>
 
 #[cycle(value)]
 #[tactic(auto, unfolding(crate::specs::Values::next_of_tuple))]
-fn next_of_tuple(cursor: &mut Cursor, level: u8) -> Result<(), LayerFault>
+fn next_of_tuple(cursor: &mut Cursor, level: u64) -> Result<(), LayerFault>
     ensures gives { Gives (λ _. cursor.new) result (next_of_tuple (value level) cursor.old) }
     ensures fewer { OnOk result (count cursor.new < count cursor.old) }
 {
@@ -68,7 +68,7 @@ fn next_of_tuple(cursor: &mut Cursor, level: u8) -> Result<(), LayerFault>
 
 #[cycle(value)]
 #[tactic(auto, unfolding(crate::specs::Values::next_of_list))]
-fn next_of_list(cursor: &mut Cursor, level: u8) -> Result<(), LayerFault>
+fn next_of_list(cursor: &mut Cursor, level: u64) -> Result<(), LayerFault>
     ensures gives { Gives (λ _. cursor.new) result (next_of_list (value level) cursor.old) }
     ensures fewer { OnOk result (count cursor.new < count cursor.old) }
 {
@@ -81,7 +81,7 @@ fn next_of_list(cursor: &mut Cursor, level: u8) -> Result<(), LayerFault>
 
 #[cycle(value)]
 #[tactic(auto, unfolding(crate::specs::Values::entry_of_dict))]
-fn entry_of_dict(cursor: &mut Cursor, level: u8) -> Result<(), LayerFault>
+fn entry_of_dict(cursor: &mut Cursor, level: u64) -> Result<(), LayerFault>
     ensures gives { Gives (λ _. cursor.new) result (entry_of_dict (value level) cursor.old) }
     ensures fewer { OnOk result (count cursor.new < count cursor.old) }
 {
@@ -95,7 +95,7 @@ fn entry_of_dict(cursor: &mut Cursor, level: u8) -> Result<(), LayerFault>
 
 #[cycle(value)]
 #[tactic(auto, unfolding(crate::specs::Values::tuple))]
-fn tuple(cursor: &mut Cursor, level: u8) -> Result<(), LayerFault>
+fn tuple(cursor: &mut Cursor, level: u64) -> Result<(), LayerFault>
     ensures gives { Gives (λ _. cursor.new) result (tuple (value level) cursor.old) }
     ensures fewer { OnOk result (count cursor.new < count cursor.old) }
 {
@@ -105,7 +105,7 @@ fn tuple(cursor: &mut Cursor, level: u8) -> Result<(), LayerFault>
 
 #[cycle(value)]
 #[tactic(auto, using(crate::proofs::Passing::passing))]
-fn rest_of_tuple(cursor: &mut Cursor, level: u8) -> Result<(), LayerFault>
+fn rest_of_tuple(cursor: &mut Cursor, level: u64) -> Result<(), LayerFault>
     ensures gives { Gives (λ _. cursor.new) result (past CloseRound (next_of_tuple (value level)) cursor.old) }
     ensures fewer { OnOk result (count cursor.new < count cursor.old) }
 {
@@ -117,7 +117,7 @@ fn rest_of_tuple(cursor: &mut Cursor, level: u8) -> Result<(), LayerFault>
 
 #[cycle(value)]
 #[tactic(auto, unfolding(crate::specs::Values::list))]
-fn list(cursor: &mut Cursor, level: u8) -> Result<(), LayerFault>
+fn list(cursor: &mut Cursor, level: u64) -> Result<(), LayerFault>
     ensures gives { Gives (λ _. cursor.new) result (list (value level) cursor.old) }
     ensures fewer { OnOk result (count cursor.new < count cursor.old) }
 {
@@ -130,7 +130,7 @@ fn list(cursor: &mut Cursor, level: u8) -> Result<(), LayerFault>
 
 #[cycle(value)]
 #[tactic(auto, using(crate::proofs::Passing::passing))]
-fn rest_of_list(cursor: &mut Cursor, level: u8) -> Result<(), LayerFault>
+fn rest_of_list(cursor: &mut Cursor, level: u64) -> Result<(), LayerFault>
     ensures gives { Gives (λ _. cursor.new) result (past CloseSquare (next_of_list (value level)) cursor.old) }
     ensures fewer { OnOk result (count cursor.new < count cursor.old) }
 {
@@ -142,7 +142,7 @@ fn rest_of_list(cursor: &mut Cursor, level: u8) -> Result<(), LayerFault>
 
 #[cycle(value)]
 #[tactic(auto, using(crate::proofs::Passing::passing), unfolding(crate::specs::Values::dict))]
-fn dict(cursor: &mut Cursor, level: u8) -> Result<(), LayerFault>
+fn dict(cursor: &mut Cursor, level: u64) -> Result<(), LayerFault>
     ensures gives { Gives (λ _. cursor.new) result (dict (value level) cursor.old) }
     ensures fewer { OnOk result (count cursor.new < count cursor.old) }
 {
@@ -173,7 +173,7 @@ fn plain_value(cursor: &mut Cursor) -> Result<(), LayerFault>
 /// Passes a value in which so many brackets may open, each inside the one before.
 #[cycle(value)]
 #[tactic(auto, unfolding(crate::specs::Values::value))]
-pub fn value(cursor: &mut Cursor, level: u8) -> Result<(), LayerFault>
+pub fn value(cursor: &mut Cursor, level: u64) -> Result<(), LayerFault>
     ensures gives { Gives (λ _. cursor.new) result (value level cursor.old) }
     ensures fewer { OnOk result (count cursor.new < count cursor.old) }
 {

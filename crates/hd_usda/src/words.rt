@@ -2,11 +2,18 @@
 
 ghost use Rattle.std.specs.Prelude.{◌≡◌, ◌≤◌, length};
 ghost use Rattle.std.specs.List.{list_all, prefix_len};
-ghost use Rattle.hd_path.specs.Names.{is_identifier};
-ghost use Rattle.hd_usda.specs.Lexing.{is_word};
-ghost use Rattle.hd_usda.specs.Names.{is_no_word, is_plain_word, is_part, is_joined};
+ghost use Rattle.hd_path.specs.Names.{is_word, is_identifier};
+ghost use Rattle.hd_usda.specs.Names.{is_long, is_no_word, is_plain_word, is_part, is_joined};
 
-use crate::lexer::{is_letter, is_word};
+use crate::limits::Which;
+use hd_path::{is_letter, is_word};
+
+/// Is the text longer than a name may be?
+pub fn is_long(text: &[u8]) -> bool
+    ensures { result ≡ is_long text.now }
+{
+    text.len() as u64 > Which::Name.number()
+}
 
 fn are_words(bytes: &[u8]) -> bool
     ensures { result ≡ list_all is_word bytes.now }
