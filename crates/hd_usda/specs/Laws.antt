@@ -1,24 +1,9 @@
--- What follows from the definition of what bytes spell.
-use Rattle.std.specs.Prelude.{◌≡◌, ◌⊎◌, ℕ, ◌<◌, List, Result, Ok, Err, if◌then◌else◌}
+-- What the repetitions of the grammar's definitions are.
+use Rattle.std.specs.Prelude.{◌≡◌, ℕ, ◌<◌, Ok, if◌then◌else◌}
 use Rattle.hd_usda.specs.declared.lexer.Kind.{Kind}
 use Rattle.hd_usda.specs.Lexing.{Tokens}
-use Rattle.hd_usda.specs.Cursors.{◌>>=◌, Fault, Past, Form, is, rest, count}
+use Rattle.hd_usda.specs.Cursors.{◌>>=◌, Past, Form, is, rest, count}
 use Rattle.hd_usda.specs.Loops.{past, past_by, all, all_by, chain, chain_by}
-use Rattle.hd_usda.specs.Layers.{reads}
-use Rattle.hd_usda.specs.Statements.{reads_property}
-
--- a value or a fault, and never both
-pub record IsOneForm {A : Type 0} (read : Result A Fault) : Type 0 where
-  pub some : ((x : A) × (read ≡ Ok x)) ⊎ ((fault : Fault) × (read ≡ Err fault))
-  pub never_both : (x : A) (fault : Fault) → read ≡ Ok x → read ≡ Err fault → ⊥
-
--- bytes spell a layer, or have a first fault
-abbrev pub LayerOrFault : Type 0
-LayerOrFault = (bytes : List ℕ) → IsOneForm (reads bytes)
-
--- a text spells a property or one that is not used, or has a first fault
-abbrev pub PropertyOrFault : Type 0
-PropertyOrFault = (text : List ℕ) → IsOneForm (reads_property text)
 
 -- form* close is the closing token, or one form and form* close again, and each bound beyond the tokens that are left gives the same
 pub record PastRepeats (close : Kind) (form : Past) : Type 0 where

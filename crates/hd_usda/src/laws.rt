@@ -1,4 +1,4 @@
-//! Laws of the grammar's definitions.
+//! A law of the grammar's definitions.
 
 ghost use Rattle.std.specs.Prelude.{ℕ, Bool};
 ghost use Rattle.hd_usda.specs.declared.lexer.Kind.TheVariants.{CloseRound, CloseSquare, CloseCurly, Colon, End};
@@ -9,13 +9,7 @@ ghost use Rattle.hd_usda.specs.Targets.{in_list};
 ghost use Rattle.hd_usda.specs.UsedValues.{numbers, triples, op_entries};
 ghost use Rattle.hd_usda.specs.Items as items;
 ghost use Rattle.hd_usda.specs.Prims.{Path, item, prim, root_item};
-ghost use Rattle.hd_usda.specs.Laws.{LayerOrFault, PropertyOrFault, PastRepeats, AllRepeats, ChainRepeats};
-
-/// Bytes spell a layer or have a first fault, and never both; so does the text of a property.
-pub fn reading_gives_one_form()
-    ensures layers { LayerOrFault }
-    ensures properties { PropertyOrFault }
-{}
+ghost use Rattle.hd_usda.specs.Laws.{PastRepeats, AllRepeats, ChainRepeats};
 
 /// Wherever the profile repeats a form, the repetition is that of its grammar: the number of rounds that bounds its
 /// definition never runs out.

@@ -30,7 +30,7 @@ mod words;
 
 pub use edit::Edit;
 pub use fault::{LayerFault, LayerWhy};
-pub use laws::{reading_gives_one_form, repetition_never_runs_out};
+pub use laws::repetition_never_runs_out;
 pub use limits::Which;
 pub use properties::{Content, Role, content_of};
 pub use read::read_layer;
