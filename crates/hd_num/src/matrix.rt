@@ -13,7 +13,7 @@ use std::marker::Model;
 /// The largest magnitude of a number in a matrix, and of a component of a moved point.
 const LIMIT: u64 = 1 << 30;
 
-/// The largest magnitude of a component for which sums of products fit 64 bits.
+/// The largest magnitude of a component whose products are summed in 64 bits.
 const NARROW_LIMIT: u64 = 1 << 31;
 
 /// A matrix that moves points: four rows of three numbers, each from -2^30 to 2^30.
