@@ -1,6 +1,5 @@
 -- Laws of what notices tell.
-use Rattle.std.proofs.Common.{◌≡◌, ℕ, Bool, true, false, ◌||◌, if◌then◌else◌, List, [], ◌∷◌, ◌++◌, Option, Some, None, ◌⊎◌, inl, inr, refl, sym, ◌∙◌, ap, append_assoc}
-use Rattle.std.proofs.lemmas.List.{append-nil}
+use Rattle.std.proofs.Common.{◌≡◌, ℕ, Bool, true, false, ◌||◌, if◌then◌else◌, List, [], ◌∷◌, ◌++◌, Option, Some, None, ◌⊎◌, inl, inr, refl, sym, ◌∙◌, ap}
 use Rattle.std.proofs.lemmas.List.Folds.{list_any-append}
 use Rattle.std.specs.Option.{option_or, option_map}
 use Rattle.std.specs.Prelude.{option_and_then}
@@ -8,7 +7,7 @@ use Rattle.std.specs.FinMap.{get}
 use Rattle.hd_value.proofs.Prefixes.{or_false}
 use Rattle.hd_value.specs.Locators.{is_prefix}
 use Rattle.hd_scene.specs.Scenes.{Scene, kind_at}
-use Rattle.hd_scene.specs.Tells.{is_same_path, kind_by, kind_after, is_whole_by, is_whole, is_dirtied_by, is_dirtied, Tells, AppendsTelling}
+use Rattle.hd_scene.specs.Tells.{is_same_path, kind_by, kind_after, is_whole_by, is_whole, is_dirtied_by, is_dirtied, Tells}
 use Rattle.hd_scene.specs.declared.prims.Entry.{Entry}
 use Rattle.hd_scene.specs.declared.notice.Notice.{Notice}
 use Rattle.hd_scene.specs.declared.notice.Notice.TheVariants.{Added, Removed, Dirtied, Renamed}
@@ -86,16 +85,6 @@ Tells-compose a b c ms ns first second = record {
 -- no notice tells that nothing changed
 pub Tells-none : (a : Scene) → Tells a a []
 Tells-none a = record { kinds = λ p. refl; values = λ p at w d. refl }
-
-pub AppendsTelling-none : (a : Scene) (x : List Notice) → AppendsTelling a a x x
-AppendsTelling-none a x = record { added = []; appended = sym (append-nil x); tells = Tells-none a }
-
-pub AppendsTelling-compose : (a b c : Scene) (x y z : List Notice) → AppendsTelling a b x y → AppendsTelling b c y z → AppendsTelling a c x z
-AppendsTelling-compose a b c x y z first second = record {
-  added = first.added ++ second.added;
-  appended = second.appended ∙ ap (λ t. t ++ second.added) first.appended ∙ append_assoc x first.added second.added;
-  tells = Tells-compose a b c first.added second.added first.tells second.tells;
-}
 
 -- a path that is not told as a whole keeps its kind
 one_keeps : (n : Notice) (p : List (List ℕ)) (now k : Kind) → is_whole_by n p ≡ false → kind_by n p now k ≡ k

@@ -1,14 +1,34 @@
 -- What follows from the definitions.
-use Rattle.std.specs.Prelude.{◌≡◌, ◌≢◌, ℕ, false, List, [], ◌++◌, Some, None}
-use Rattle.std.specs.FinMap.{get}
+use Rattle.std.specs.Prelude.{◌≡◌, ◌≢◌, ℕ, false, not, List, [], ◌∷◌, ◌++◌, Some, None}
+use Rattle.std.specs.FinMap.{get, insert, retain_keys}
+use Rattle.hd_value.specs.Locators.{is_prefix}
+use Rattle.hd_value.specs.LocatorSets.{touches}
 use Rattle.hd_scene.specs.Scenes.{Scene, kind_at, children_of, AreChildren, IsClosed}
 use Rattle.hd_scene.specs.Tells.{kind_after, is_whole, is_dirtied, Tells}
 use Rattle.hd_scene.specs.declared.prims.Entry.{Entry}
 use Rattle.hd_scene.specs.declared.notice.Notice.{Notice}
+use Rattle.hd_scene.specs.declared.notice.Notice.TheVariants.{Added, Removed, Dirtied}
 
 -- the notices of a first step and behind them those of a second one tell both steps
 abbrev pub TellingComposes : Type 0
 TellingComposes = (a b c : Scene) (first second : List Notice) → Tells a b first → Tells b c second → Tells a c (first ++ second)
+
+-- no notice tells that nothing has changed
+abbrev pub NothingIsTold : Type 0
+NothingIsTold = (scene : Scene) → Tells scene scene []
+
+-- a prim that is put at a path is told as added
+abbrev pub AddedIsTold : Type 0
+AddedIsTold = (scene : Scene) (path : List (List ℕ)) (e : Entry) → Tells scene (insert scene path e) (Added path e.kind ∷ [])
+
+-- prims that are taken out at and below a path are told as removed
+abbrev pub RemovedIsTold : Type 0
+RemovedIsTold = (scene : Scene) (path : List (List ℕ)) → Tells scene (retain_keys scene (λ p. not (is_prefix path p))) (Removed path ∷ [])
+
+-- a prim that keeps its kind is told as dirtied, where the set intersects each locator at which its values differ
+abbrev pub DirtiedIsTold : Type 0
+DirtiedIsTold = (scene : Scene) (path : List (List ℕ)) (old new : Entry) (set : List (List (List ℕ))) → get scene path ≡ Some old → new.kind ≡ old.kind
+    → ((at : List (List ℕ)) → touches set at ≡ false → get new.values at ≡ get old.values at) → Tells scene (insert scene path new) (Dirtied path set ∷ [])
 
 -- a prim that is not told as a whole keeps its kind, or is in neither scene
 abbrev pub UntoldKeepTheirKinds : Type 0

@@ -1,10 +1,8 @@
 -- What a list of notices tells of a step from one scene to another.
-use Rattle.std.specs.Prelude.{◌≡◌, ℕ, Bool, false, ◌||◌, ◌&&◌, if◌then◌else◌, List, [], ◌∷◌, ◌++◌, Option, Some, None, IsTrue}
+use Rattle.std.specs.Prelude.{◌≡◌, ℕ, Bool, false, ◌||◌, ◌&&◌, if◌then◌else◌, List, [], ◌∷◌, Option, Some, None}
 use Rattle.std.specs.Option.{option_or}
 use Rattle.std.specs.List.{list_any}
 use Rattle.std.specs.Cmp.Lexicographic.{pointwise}
-use Rattle.hd_value.specs.declared.groups.Group.{Group}
-use Rattle.hd_value.specs.Groups.{locator_of_group, locators_before_flattening}
 use Rattle.hd_value.specs.Locators.{is_same, is_prefix}
 use Rattle.hd_value.specs.LocatorSets.{touches}
 use Rattle.hd_scene.specs.Scenes.{Scene, kind_at, value_at}
@@ -56,21 +54,3 @@ is_dirtied notices p at = list_any (λ n. is_dirtied_by n p at) notices
 pub record Tells (old new : Scene) (notices : List Notice) : Type 0 where
   pub kinds : (p : List (List ℕ)) → kind_at new p ≡ kind_after notices p (kind_at new p) (kind_at old p)
   pub values : (p at : List (List ℕ)) → is_whole notices p ≡ false → is_dirtied notices p at ≡ false → value_at new p at ≡ value_at old p at
-
--- what was appended to a list of notices tells the step
-pub record AppendsTelling (old new : Scene) (before after : List Notice) : Type 0 where
-  pub added : List Notice
-  pub appended : after ≡ before ++ added
-  pub tells : Tells old new added
-
--- the notices say of p that values at one of the locators may have changed
-abbrev pub TellsSome : List Notice → List (List ℕ) → List (List (List ℕ)) → Type 0
-TellsSome notices p locators = IsTrue (is_whole notices p || list_any (is_dirtied notices p) locators)
-
--- and that values of the group may have changed
-abbrev pub TellsGroup : List Notice → List (List ℕ) → Group → Type 0
-TellsGroup notices p group = TellsSome notices p (locator_of_group group ∷ [])
-
--- the same before flattening, where a colour is authored in either of two forms
-abbrev pub TellsGroupBeforeFlattening : List Notice → List (List ℕ) → Group → Type 0
-TellsGroupBeforeFlattening notices p group = TellsSome notices p (locators_before_flattening group)

@@ -1,10 +1,20 @@
 //! What holds of every scene and every list of notices.
 
-ghost use Rattle.hd_scene.specs.Laws.{TellingComposes, UntoldKeepTheirKinds, ToldWhereBothAre, ChildrenStandBelow, ChildrenAreOneList, AbsentHasNoChildren};
+ghost use Rattle.hd_scene.specs.Laws.{TellingComposes, NothingIsTold, AddedIsTold, RemovedIsTold, DirtiedIsTold, UntoldKeepTheirKinds, ToldWhereBothAre, ChildrenStandBelow, ChildrenAreOneList, AbsentHasNoChildren};
 
 /// Two steps that are told one after the other are told by both lists together.
 pub fn telling_composes()
     ensures { TellingComposes }
+{}
+
+/// A step that changes nothing is told by no notice. A prim that is put at a path is told as added, prims that are taken
+/// out at and below a path as removed, and a prim that keeps its kind as dirtied, by a set that intersects each locator at
+/// which its values differ.
+pub fn single_steps_are_told()
+    ensures nothing { NothingIsTold }
+    ensures added { AddedIsTold }
+    ensures removed { RemovedIsTold }
+    ensures dirtied { DirtiedIsTold }
 {}
 
 /// A prim that is not told as a whole keeps its kind, or is in neither scene. So notices tell a step where they tell kinds,

@@ -7,7 +7,9 @@ mod notices;
 mod prims;
 mod scene_index;
 
-pub use laws::{children_stand_below, telling_composes, untold_prims_keep_their_kinds};
+pub use laws::{
+    children_stand_below, single_steps_are_told, telling_composes, untold_prims_keep_their_kinds,
+};
 pub use notice::Notice;
 pub use notices::Notices;
 pub use prims::{Entry, Primitive as Prim};
