@@ -1,5 +1,5 @@
 -- Which values may stand at which locators.
-use Rattle.std.specs.Prelude.{◌≡◌, ℕ, Bool, true, false, ◌&&◌, ◌||◌, nat_eq, nat_le, List, [], ◌∷◌, ◌++◌, length, codes, Some, IsTrue}
+use Rattle.std.specs.Prelude.{◌≡◌, ℕ, Bool, true, false, ◌&&◌, ◌||◌, nat_eq, List, [], ◌∷◌, ◌++◌, codes, Some, IsTrue}
 use Rattle.std.specs.List.{list_all, list_any, starts_with}
 use Rattle.std.specs.FinMap.{get}
 use Rattle.hd_num.specs.declared.axis.Axis.TheVariants.{X, Y, Z}
@@ -89,6 +89,10 @@ abbrev pub is_some_paths : Value → Bool
 is_some_paths (Paths (p ∷ ps)) = true
 is_some_paths _ = false
 
+abbrev pub is_one_path : Value → Bool
+is_one_path (Paths (p ∷ [])) = true
+is_one_path _ = false
+
 abbrev pub is_flag : Value → Bool
 is_flag (Flag b) = true
 is_flag _ = false
@@ -102,11 +106,6 @@ abbrev pub is_matrix : Value → Bool
 is_matrix (Matrix m) = true
 is_matrix Out = true
 is_matrix _ = false
-
--- one path, or none
-abbrev pub is_binding : Value → Bool
-is_binding (Paths ps) = nat_le (length ps) 1
-is_binding _ = false
 
 -- a locator of one token, and of two
 abbrev pub one : List ℕ → List (List ℕ)
@@ -156,7 +155,7 @@ flattened_rows =
     (two (codes "xform") (codes "matrix"), is_matrix)
     ∷ (one (codes "visibility"), is_flag)
     ∷ (one (codes "purpose"), is_word_of purposes)
-    ∷ (one (codes "binding"), is_binding)
+    ∷ (one (codes "binding"), is_one_path)
     ∷ (two (codes "primvars") (codes "color"), is_colors)
     ∷ []
 
@@ -192,7 +191,3 @@ IsAuthored m = HasShape is_authored m
 -- what instancing gives
 abbrev pub IsInstanced : Map → Type 0
 IsInstanced m = HasShape is_instanced m
-
--- what flattening gives
-abbrev pub IsFlattened : Map → Type 0
-IsFlattened m = HasShape is_flattened m
