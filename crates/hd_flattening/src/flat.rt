@@ -48,18 +48,10 @@ fn flat_values(
     let own = inherited.below(alloc, values)?;
     let colors = inherited.colors(alloc, values)?;
     let mut flat = Container::new();
-    put(
-        &mut flat,
-        alloc,
-        &["xform", "matrix"],
-        Some(matrix_value(own.matrix)),
-    )?;
-    put(
-        &mut flat,
-        alloc,
-        &["visibility"],
-        Some(Value::Flag(own.is_visible)),
-    )?;
+    let matrix = matrix_value(own.matrix);
+    put(&mut flat, alloc, &["xform", "matrix"], Some(matrix))?;
+    let visibility = Value::Flag(own.is_visible);
+    put(&mut flat, alloc, &["visibility"], Some(visibility))?;
     let purpose = Value::Token(purpose_or_default(alloc, own.purpose)?);
     put(&mut flat, alloc, &["purpose"], Some(purpose))?;
     put(

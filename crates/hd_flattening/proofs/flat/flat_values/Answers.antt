@@ -18,7 +18,7 @@ pub returns : goal.returns
 returns c = λ (above : List Map) is.
     let prim : Map = c.args.values.now in
     let own = c.in_ok-own.ensures above is in
-    let matrix : c.matrix_value.result ≡ matrix_value (flat_matrix (prim ∷ above)) = c.matrix_value.ensures ∙ ap (λ i. matrix_value i.matrix) own in
+    let matrix : c.matrix_value-matrix.result ≡ matrix_value (flat_matrix (prim ∷ above)) = c.matrix_value-matrix.ensures ∙ ap (λ i. matrix_value i.matrix) own in
     let purpose : c.in_ok-purpose_or_default.field-0 ≡ flat_purpose (prim ∷ above) = c.in_ok-purpose_or_default.ensures ∙ ap (λ i. unwrap_or i.purpose (codes "default")) own in
     let binding : c.in_ok-binding_value.field-0 ≡ binding_value (flat_binding (prim ∷ above)) = c.in_ok-binding_value.ensures ∙ ap (λ i. binding_value (option_and_then first_of i.binding)) own in
     let placed = put_more matrix_at c.in_ok-put.ensures.ok c.new-flat.ensures (ap Some matrix) in
