@@ -28,7 +28,7 @@ const DOWN: Place = Place { x: 0, y: -2 };
 /// A triangle whose corners turn to the left: twice its area, and how it changes from pixel to pixel
 /// and from row to row.
 #[derive(Clone, Copy)]
-pub struct Face {
+struct Face {
     pub area: i64,
     pub right: Scan,
     pub down: Scan,

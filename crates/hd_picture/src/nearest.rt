@@ -41,7 +41,7 @@ pub fn pixel(draws: &Draws, x: u32, y: u32) -> Rgb
 }
 
 /// The nearest fragment at a place after one more triangle, whose corners are seen there.
-pub fn nearest_with(
+fn nearest_with(
     best: Option<Fragment>,
     eye: Vec3,
     q: Place,

@@ -5,7 +5,7 @@ ghost use Rattle.hd_picture.specs.Depth.{floor_div};
 ghost use Rattle.hd_picture.specs.Limits.{IsWithin};
 ghost use Rattle.hd_picture.specs.Scanning.{IsAdvanced, IsQuotient, IsQuotientStep, IsRest};
 
-/// The greatest distance from 0 of a quotient from which steps are taken.
+/// The greatest distance from 0 of a quotient that `quotient_of` answers.
 const REACH: i128 = 1 << 60;
 
 /// A whole number of areas, and a rest.
@@ -54,7 +54,8 @@ pub fn advanced(at: Quotient, step: Quotient, area: i64) -> Quotient
     requires lack { IsRest area (step.rest +ℤ area) }
     ensures { IsAdvanced area at step result }
 {
-    // The sign tells whether the rest ran over, so that no branch is needed: it could not be foretold.
+    // The step's whole is one above its quotient, and its rest is below 0. Where the rests add up to less than 0, they
+    // make no whole, and that one is taken back.
     let rest = at.rest + step.rest;
     if rest < 0 {
         Quotient {

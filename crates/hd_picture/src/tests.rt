@@ -23,27 +23,33 @@ const EYE: Vec3 = Vec3 {
     z: 1 << 24,
 };
 
+fn corner(x: i64, y: i64, z: i64) -> Vec3 {
+    Vec3 { x, y, z }
+}
+
+fn facet(a: Vec3, b: Vec3, c: Vec3, color: Rgb) -> WorldTri {
+    WorldTri { a, b, c, color }
+}
+
 /// A right triangle around the middle of the picture, with its corners at these depths.
 fn right_triangle(size: u32, a: i64, b: i64, c: i64, color: Rgb) -> WorldTri {
     let size = i64::from(size);
-    WorldTri {
-        a: Vec3 {
-            x: -size,
-            y: -size,
-            z: a,
-        },
-        b: Vec3 {
-            x: size,
-            y: -size,
-            z: b,
-        },
-        c: Vec3 {
-            x: -size,
-            y: size,
-            z: c,
-        },
+    facet(
+        corner(-size, -size, a),
+        corner(size, -size, b),
+        corner(-size, size, c),
         color,
-    }
+    )
+}
+
+/// A triangle that covers a picture of 17 by 1.
+fn tent() -> WorldTri {
+    facet(
+        corner(-20, -20, 0),
+        corner(20, -20, 0),
+        corner(0, 40, 0),
+        WHITE,
+    )
 }
 
 fn letter(color: Rgb) -> u8 {
@@ -190,38 +196,23 @@ fn shows_nothing_behind_the_eye(rt: HostRuntime) -> Result<(), Fail> {
 }
 
 #[test]
-fn draws_odd_sizes_lines_and_the_greatest_coordinates(rt: HostRuntime) -> Result<(), Fail> {
+fn draws_odd_sizes_and_lines(rt: HostRuntime) -> Result<(), Fail> {
     let alloc = rt.alloc();
-    let tent = WorldTri {
-        a: Vec3 {
-            x: -20,
-            y: -20,
-            z: 0,
-        },
-        b: Vec3 {
-            x: 20,
-            y: -20,
-            z: 0,
-        },
-        c: Vec3 { x: 0, y: 40, z: 0 },
-        color: WHITE,
-    };
     assert_eq!(rt;
-        drawn(alloc, &[tent], EYE, 17, 1)?.as_slice(),
+        drawn(alloc, &[tent()], EYE, 17, 1)?.as_slice(),
         b"wwwwwwwwwwwwwwwww\n".as_slice()
     );
-
-    let line = WorldTri {
-        a: Vec3 { x: -2, y: -2, z: 0 },
-        b: Vec3 { x: 0, y: 0, z: 0 },
-        c: Vec3 { x: 2, y: 2, z: 0 },
-        color: WHITE,
-    };
+    let line = facet(corner(-2, -2, 0), corner(0, 0, 0), corner(2, 2, 0), WHITE);
     assert_eq!(rt;
         drawn(alloc, &[line], EYE, 2, 2)?.as_slice(),
         b"..\n..\n".as_slice()
     );
+    Ok(())
+}
 
+#[test]
+fn draws_the_greatest_coordinates(rt: HostRuntime) -> Result<(), Fail> {
+    let alloc = rt.alloc();
     // One step from the diagonal the slope's depth falls by exactly 1.
     let far = 1 << 24;
     let flat = right_triangle(1 << 24, far - 1, far - 1, far - 1, GREEN);
@@ -230,14 +221,9 @@ fn draws_odd_sizes_lines_and_the_greatest_coordinates(rt: HostRuntime) -> Result
         drawn(alloc, &[flat, slope], EYE, 4, 4)?.as_slice(),
         b"r...\ngr..\nggr.\ngggr\n".as_slice()
     );
-
-    let corner = Vec3 {
-        x: 1 << 30,
-        y: -(1 << 30),
-        z: 1 << 30,
-    };
+    let away = corner(1 << 30, -(1 << 30), 1 << 30);
     assert_eq!(rt;
-        drawn(alloc, &[slope], corner, 2, 2)?.as_slice(),
+        drawn(alloc, &[slope], away, 2, 2)?.as_slice(),
         b"..\n..\n".as_slice()
     );
     Ok(())
@@ -246,27 +232,11 @@ fn draws_odd_sizes_lines_and_the_greatest_coordinates(rt: HostRuntime) -> Result
 #[test]
 fn draws_a_tile_at_the_border(rt: HostRuntime) -> Result<(), Fail> {
     let alloc = rt.alloc();
-    let tent = WorldTri {
-        a: Vec3 {
-            x: -20,
-            y: -20,
-            z: 0,
-        },
-        b: Vec3 {
-            x: 20,
-            y: -20,
-            z: 0,
-        },
-        c: Vec3 { x: 0, y: 40, z: 0 },
-        color: WHITE,
-    };
-    let draws = scene(alloc, &[tent], EYE, 17, 1)?;
+    let draws = scene(alloc, &[tent()], EYE, 17, 1)?;
     let mut block = [RED; 256];
-    if is_drawable(&draws) {
-        if 1 < tile_count(draws.width, draws.height) {
-            tile(&draws, 1, &mut block);
-        }
-    }
+    assert!(rt; is_drawable(&draws));
+    assert!(rt; 1 < tile_count(draws.width, draws.height));
+    tile(&draws, 1, &mut block);
     assert_eq!(rt; letter(block[0]), b'w');
     assert!(rt; block[1..].iter().all(|color| letter(*color) == b'.'));
     Ok(())
@@ -298,14 +268,6 @@ fn draws_the_tiles_of_a_frame(rt: HostRuntime) -> Result<(), Fail> {
     tile(&draws, 4, &mut block);
     assert!(rt; is_white_at(&block, &[6, 7, 8, 22, 23, 24, 25]));
     Ok(())
-}
-
-fn corner(x: i64, y: i64, z: i64) -> Vec3 {
-    Vec3 { x, y, z }
-}
-
-fn facet(a: Vec3, b: Vec3, c: Vec3, color: Rgb) -> WorldTri {
-    WorldTri { a, b, c, color }
 }
 
 /// What tile `n` is to show at its pixel `i`, by the pixel itself.
@@ -352,7 +314,13 @@ fn has_tiles_of_pixels(draws: &Draws) -> bool
 }
 
 /// Slanted triangles that cover, cross and miss tiles, and turn to both sides.
-fn slanted() -> [WorldTri; 8] {
+fn slanted(alloc: Global) -> Result<Vec<WorldTri>, AllocError> {
+    let mut all = near_slanted().to_vec(alloc)?;
+    all.extend_from_slice(&far_slanted())?;
+    Ok(all)
+}
+
+fn near_slanted() -> [WorldTri; 4] {
     [
         facet(
             corner(-99, -99, 0),
@@ -378,6 +346,11 @@ fn slanted() -> [WorldTri; 8] {
             corner(-21, -2, 9),
             GREEN,
         ),
+    ]
+}
+
+fn far_slanted() -> [WorldTri; 4] {
+    [
         facet(corner(1, 1, 4), corner(2, 1, 5), corner(1, 3, -9), WHITE),
         facet(corner(40, 1, 4), corner(50, 9, 5), corner(41, 30, 2), RED),
         facet(
@@ -398,12 +371,11 @@ fn slanted() -> [WorldTri; 8] {
 #[test]
 fn draws_tiles_as_pixels(rt: HostRuntime) -> Result<(), Fail> {
     let alloc = rt.alloc();
-    let tris = slanted();
+    let tris = slanted(alloc)?;
     for eye in [EYE, corner(3, -5, 2), corner(-1, 4, -4)] {
         let draws = scene(alloc, &tris, eye, 41, 35)?;
-        if is_drawable(&draws) {
-            assert!(rt; has_tiles_of_pixels(&draws));
-        }
+        assert!(rt; is_drawable(&draws));
+        assert!(rt; has_tiles_of_pixels(&draws));
     }
     Ok(())
 }
@@ -435,9 +407,8 @@ fn counts_tiles_and_copies(rt: HostRuntime) -> Result<(), Fail> {
         (1024, 1024, 4096),
         (4, 4, 1),
     ] {
-        if 1 <= width && width <= 1024 && 1 <= height && height <= 1024 {
-            assert_eq!(rt; tile_count(width, height), count);
-        }
+        assert!(rt; 1 <= width && width <= 1024 && 1 <= height && height <= 1024);
+        assert_eq!(rt; tile_count(width, height), count);
     }
     let alloc = rt.alloc();
     let tri = right_triangle(2, 0, 0, 0, RED);
