@@ -57,6 +57,13 @@ impl Path {
         Ok(Path::from_slashed(alloc, text)?)
     }
 
+    /// At most 32 names, each an identifier of at most 64 bytes: a fact for proofs, which costs nothing.
+    pub fn is_path(&self)
+        ensures { IsPath self.now }
+    {
+        let _ = &self.shared;
+    }
+
     /// How many names the path has, at most 32.
     #[tactic(auto, using(crate::proofs::Building::depths))]
     pub fn depth(&self) -> usize
