@@ -2,7 +2,6 @@ pub mod Places
 pub mod Kept
 pub mod Authoring
 pub mod Listing
-pub mod PathNames
 pub mod Depths
 pub mod Gathering
 pub mod PathsFrom

@@ -1,5 +1,6 @@
 -- A list of properties with one of them changed.
-use Rattle.std.proofs.Common.{◌≡◌, ℕ, Bool, true, false, not, cond, ◌&&◌, ◌||◌, List, [], ◌∷◌, ◌++◌, map, filter, Option, Some, None, Result, Ok, Err, IfOk, refl, sym, ◌∙◌, ap}
+use Rattle.std.proofs.Common.{◌≡◌, ◌≢◌, ℕ, Bool, true, false, not, cond, ◌&&◌, ◌||◌, List, [], ◌∷◌, ◌++◌, map, filter, Option, Some, None, Result, Ok, Err, IfOk, length, refl, sym, ◌∙◌, ap, arith}
+use Rattle.std.proofs.lemmas.Bool.{lt-ltb}
 use Rattle.std.proofs.lemmas.Cmp.{eq_by_cmp_equiv}
 use Rattle.std.proofs.lemmas.List.{map-append}
 use Rattle.std.specs.Cmp.Lexicographic.{slice_cmp, bytes_decides, nat_list_cmp_total, texts_ties}
@@ -11,7 +12,7 @@ use Rattle.std.specs.declared.alloc.AllocError.{AllocError}
 use Rattle.hd_usda.specs.declared.spec.Property.{Property}
 use Rattle.hd_usda.specs.declared.spec.PrimSpec.{PrimSpec}
 use Rattle.hd_usda.specs.declared.spec.RawValue.{RawValue}
-use Rattle.hd_usda.specs.WellFormed.{is_property, is_prim_spec, is_path, is_kind, are_distinct}
+use Rattle.hd_usda.specs.WellFormed.{is_below_root, is_property, is_prim_spec, are_distinct}
 use Rattle.hd_schema.proofs.Putting.{Holds, none_held}
 use Rattle.hd_schema.proofs.Lookups.{and_true, true_is_not}
 use Rattle.hd_retained.specs.declared.held.Held.{Held}
@@ -173,20 +174,22 @@ spec_held h spec formed same holds =
       values = container_is h.values spec.properties holds ∙ ap (λ (ps : List Property). container_of (properties_of ps)) (sym same);
     }
 
+pub below_root : (path : List (List ℕ)) → path ≢ [] → is_below_root path ≡ true
+below_root [] other = absurd (other refl)
+below_root (name ∷ path) other = lt-ltb 0 (length (name ∷ path)) (omega arith)
+
 -- a well formed prim from its parts
-pub made_spec : (spec : PrimSpec) → is_path spec.path ≡ true → spec.kind ≡ [] → list_all is_property spec.properties ≡ true → are_distinct (names spec.properties) ≡ true → is_prim_spec spec ≡ true
-made_spec spec path kind formed distinct =
-    and_is _ (are_distinct (names spec.properties))
-    (and_is _ (list_all is_property spec.properties) (and_is (is_path spec.path) (is_kind spec.kind) path (ap is_kind kind)) formed)
-    distinct
+pub made_spec : (spec : PrimSpec) → is_below_root spec.path ≡ true → list_all is_property spec.properties ≡ true → are_distinct (names spec.properties) ≡ true → is_prim_spec spec ≡ true
+made_spec spec below formed distinct =
+    and_is _ (are_distinct (names spec.properties)) (and_is (is_below_root spec.path) (list_all is_property spec.properties) below formed) distinct
 
 pub others_are : (kept items ps : List Property) (text name : List ℕ) → kept ≡ others text items → items ≡ ps → text ≡ name → kept ≡ others name ps
 others_are kept items ps text name is same same_name = is ∙ ap (others text) same ∙ ap (λ (n : List ℕ). others n ps) same_name
 
--- a prim that has the kind and the properties
-pub prim_from : (r : Result Held AllocError) (kind : List ℕ) (items : List Property) (p : LayerPrim) → IfOk r (λ h. h.kind ≡ kind) → IfOk r (λ h. h.properties ≡ items) → record { kind = kind; properties = properties_of items } ≡ p → IfOk r (λ h. prim_of h ≡ p)
-prim_from (Ok h) kind items p same_kind same is = ap (λ (k : List ℕ). record { kind = k; properties = properties_of h.properties }) same_kind ∙ ap (λ (ps : List Property). record { kind = kind; properties = properties_of ps }) same ∙ is
-prim_from (Err e) kind items p same_kind same is = tt
+-- a prim that is one is an equal one
+pub prim_from : (r : Result Held AllocError) (p q : LayerPrim) → IfOk r (λ h. prim_of h ≡ p) → p ≡ q → IfOk r (λ h. prim_of h ≡ q)
+prim_from (Ok h) p q is same = is ∙ same
+prim_from (Err e) p q is same = tt
 
 pub pushed_are : (pushed kept items ps : List Property) (text name : List ℕ) (copied p : Property) → pushed ≡ kept ++ copied ∷ [] → kept ≡ others text items → items ≡ ps → text ≡ name → copied ≡ p → pushed ≡ others name ps ++ p ∷ []
 pushed_are pushed kept items ps text name copied p more is same same_name same_copy =

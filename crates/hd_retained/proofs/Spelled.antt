@@ -1,5 +1,5 @@
 -- The layers that texts spell.
-use Rattle.std.proofs.Common.{◌≡◌, ℕ, ◌+◌, ◌-◌, ◌<◌, suc, Bool, true, false, ◌&&◌, ◌||◌, ◌==◌, cond, nat_le, List, [], ◌∷◌, ◌++◌, length, get_or, map, take, drop, Option, Some, None, is_some, option_and_then, Contains, slice_index_or, zero, refl, sym, ◌∙◌, ap, arith, take-append-drop, drop-cons}
+use Rattle.std.proofs.Common.{◌≡◌, ℕ, ◌+◌, ◌-◌, ◌<◌, suc, Bool, true, false, ◌&&◌, ◌||◌, ◌==◌, cond, nat_le, List, [], ◌∷◌, ◌++◌, length, get_or, map, take, drop, Option, Some, None, is_some, option_and_then, Contains, slice_index_or, zero, refl, sym, ◌∙◌, ap, subst, arith, take-append-drop, drop-cons}
 use Rattle.std.proofs.lemmas.Bool.Decides.{Decides-eqb}
 use Rattle.std.proofs.lemmas.Cmp.{eq_by_cmp_equiv}
 use Rattle.std.proofs.lemmas.List.{take_more, map-append}
@@ -10,14 +10,14 @@ use Rattle.std.specs.Option.{option_map}
 use Rattle.std.specs.Ordering.{eq_by_cmp, is_eq, is_lt, ordering_reverse}
 use Rattle.std.specs.declared.cmp.Ordering.{Ordering}
 use Rattle.std.specs.declared.cmp.Ordering.TheVariants.{Less, Equal, Greater}
-use Rattle.std.specs.FinMap.{get, find, insert, from_entries, from_entries_push, get-from_entries}
+use Rattle.std.specs.FinMap.{get, find, insert, from_entries, from_entries_push, get-insert, get-from_entries}
 use Rattle.std.specs.FinMap.Entries.{is_some-find}
 use Rattle.std.specs.BTreeMap.{BTreeMap}
 use Rattle.hd_usda.specs.declared.spec.PrimSpec.{PrimSpec}
 use Rattle.hd_usda.specs.declared.spec.LayerSpec.{LayerSpec}
-use Rattle.hd_usda.specs.WellFormed.{is_layer, is_prim_spec, is_path, is_kind, is_property, are_distinct, ascend, has_parent}
+use Rattle.hd_usda.specs.WellFormed.{is_layer, is_prim_spec, is_below_root, is_property, are_distinct, ascend, has_parent}
 use Rattle.hd_schema.proofs.Lookups.{and_true, true_is_not}
-use Rattle.hd_path.specs.Paths.{path_cmp}
+use Rattle.hd_path.specs.Paths.{IsPath, path_cmp}
 use Rattle.hd_schema.specs.Authored.{authored_at}
 use Rattle.hd_scene.specs.Scenes.{kind_at, value_at, IsClosed}
 use Rattle.hd_scene.specs.declared.prims.Entry.{Entry}
@@ -31,7 +31,6 @@ use Rattle.hd_retained.specs.Indexed.{place_cmp, IsSound}
 use Rattle.hd_retained.proofs.Authoring.{container_holds, container_authors}
 use Rattle.hd_retained.proofs.Kept.{get-scene}
 use Rattle.hd_retained.proofs.Listing.{names}
-use Rattle.hd_retained.proofs.PathNames.{formed_path, formed_below_root}
 use Rattle.hd_retained.proofs.Closed.{closed_by, parent_is}
 
 abbrev Names : Type 0
@@ -74,30 +73,43 @@ parts l h =
     let d = and_true _ (list_all is_prim_spec l.prims) b.0 in
     record { formed = d.1; ascends = b.1; parents = a.1 }
 
-spec_path : (p : PrimSpec) → is_prim_spec p ≡ true → is_path p.path ≡ true
-spec_path p h =
+spec_below_root : (p : PrimSpec) → is_prim_spec p ≡ true → is_below_root p.path ≡ true
+spec_below_root p h =
     let a = and_true _ (are_distinct (names p.properties)) h in
-    let b = and_true _ (list_all is_property p.properties) a.0 in
-    (and_true (is_path p.path) (is_kind p.kind) b.0).0
+    (and_true (is_below_root p.path) (list_all is_property p.properties) a.0).0
 
-formed_paths : (ps : List PrimSpec) → list_all is_prim_spec ps ≡ true → list_all is_path (paths_of ps) ≡ true
-formed_paths [] h = refl
-formed_paths (p ∷ ps) h =
+paths_below_root : (ps : List PrimSpec) → list_all is_prim_spec ps ≡ true → list_all is_below_root (paths_of ps) ≡ true
+paths_below_root [] h = refl
+paths_below_root (p ∷ ps) h =
     let both = and_true (is_prim_spec p) (list_all is_prim_spec ps) h in
-    ap (λ b. b && list_all is_path (paths_of ps)) (spec_path p both.0) ∙ formed_paths ps both.1
+    ap (λ b. b && list_all is_below_root (paths_of ps)) (spec_below_root p both.0) ∙ paths_below_root ps both.1
 
 not_there : (b : Bool) → (b ≡ true → ⊥) → b ≡ false
 not_there true h = absurd (h refl)
 not_there false h = refl
 
+-- each prim of a layer stands at a path
+abbrev pub ArePaths : Layer → Type 0
+ArePaths layer = (path : Names) → is_some (get layer path) ≡ true → IsPath path
+
+pub no_paths : ArePaths (layer_from [])
+no_paths path there = true_is_not (sym there ∙ spelled_there [] path)
+
+pub next_paths : (layer : Layer) (at : Names) (p : LayerPrim) → ArePaths layer → IsPath at → ArePaths (insert layer at p)
+next_paths layer at p paths is path there =
+    elim (eq_by_cmp path_cmp path at) as (λ b. eq_by_cmp path_cmp path at ≡ b → is_some (cond b (Some p) (get layer path)) ≡ true → IsPath path) [
+      | true ↦ λ same _. subst IsPath (sym (tied path at same)) is
+      | false ↦ λ _ old. paths path old
+    ] refl (ap is_some (sym (get-insert path_cmp_total layer at p path)) ∙ there)
+
 -- each prim of a well formed layer is below its parent
-pub spelled_closed : (l : LayerSpec) → is_layer l ≡ true → IsClosed (scene_of (layer_of l))
-spelled_closed l h =
+pub spelled_closed : (l : LayerSpec) → is_layer l ≡ true → ArePaths (layer_of l) → IsClosed (scene_of (layer_of l))
+spelled_closed l h are_paths =
     let p = parts l h in
     let paths : List Names = paths_of l.prims in
-    let formed : list_all is_path paths ≡ true = formed_paths l.prims p.formed in
+    let below_root : list_all is_below_root paths ≡ true = paths_below_root l.prims p.formed in
     closed_by (layer_of l)
-    (not_there (is_some (get (layer_of l) [])) (λ there. formed_below_root [] (all_listed is_path paths [] formed (sym (spelled_there l.prims []) ∙ there)) refl))
+    (not_there (is_some (get (layer_of l) [])) (λ there. true_is_not (sym (all_listed is_below_root paths [] below_root (sym (spelled_there l.prims []) ∙ there)))))
     (λ path name below there.
     let q : Names = path ++ name ∷ below ∷ [] in
     let listed : list_any (eq_by_cmp path_cmp q) paths ≡ true = sym (spelled_there l.prims q) ∙ there in
@@ -106,7 +118,7 @@ spelled_closed l h =
     spelled_there l.prims (path ++ name ∷ [])
     ∙ sym (ap (λ b. b || list_any (λ other. is_eq (path_cmp (take (length q - 1) q) other)) paths) (not_one (length q) parent.1) ∙ ap (λ (z : Names). list_any (λ other. is_eq (path_cmp z other)) paths) parent.0)
     ∙ has)
-    (λ path there. formed_path path (all_listed is_path paths path formed (sym (spelled_there l.prims path) ∙ there)))
+    are_paths
   where
     not_one : (n : ℕ) → nat_le n 1 ≡ false → (n == 1) ≡ false
     not_one n more = not_there (n == 1) (λ one. true_is_not (sym (ap (λ (k : ℕ). nat_le k 1) ((Decides-eqb n 1).0 one)) ∙ more))

@@ -41,8 +41,7 @@ pub(crate) fn define(
     ensures refusal { IfErr result (IsRefusal (after_define (layer_in prims.old) kind.now path.now)) }
     ensures err { OnErr result (layer_in prims.new ≡ layer_in prims.old) }
 {
-    // The text is not used: its contract says that these names are those of a path.
-    let _ = path.as_text();
+    path.is_path();
     if !has_parent(alloc, prims, path)? {
         return Err(EditFault::NoPrim);
     }

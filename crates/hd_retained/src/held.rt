@@ -4,7 +4,7 @@ ghost use Rattle.std.specs.Prelude.{◌≡◌, ◌≢◌, [], ◌∷◌, ◌++�
 ghost use Rattle.std.specs.List.{list_all};
 ghost use Rattle.std.specs.Str.{bytes_eq};
 ghost use Rattle.hd_usda.specs.WellFormed.{is_property, is_prim_spec, are_distinct};
-ghost use Rattle.hd_retained.specs.Layers.{spelled_prim};
+ghost use Rattle.hd_retained.specs.Layers.{properties_of, spelled_prim};
 ghost use Rattle.hd_retained.specs.Edits.{with_value, without_value};
 ghost use Rattle.hd_retained.specs.Indexed.{place_of, prim_of, IsHeld};
 
@@ -89,22 +89,15 @@ impl Held {
         requires below_root { path.now ≢ [] }
         requires formed { IsTrue (list_all is_property properties.items) }
         requires distinct { IsTrue (are_distinct (map (λ p. p.name) properties.items)) }
-        ensures kind { IfOk result (λ held. held.kind ≡ self.now.kind) }
-        ensures properties { IfOk result (λ held. held.properties ≡ properties.items) }
+        ensures prim { IfOk result (λ held. prim_of held ≡ record { kind = self.now.kind; properties = properties_of properties.items }) }
         ensures held { IfOk result IsHeld }
     {
-        // The text is not used: its contract says that these names are those of a path.
-        let _ = path.as_text();
         let spec = PrimSpec {
             path: path.copy()?,
-            kind: Token::new(alloc, "")?,
+            kind: self.kind.copy()?,
             properties: List::of(alloc, properties)?,
         };
-        Ok(Held {
-            kind: self.kind.copy()?,
-            properties: spec.properties.copy()?,
-            values: to_container(alloc, &spec)?,
-        })
+        Held::of_spec(alloc, &spec)
     }
 
     /// The prim where a property has a value. It stands at the path.

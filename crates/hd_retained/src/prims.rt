@@ -96,6 +96,7 @@ pub(crate) fn of_layer(
 {
     let mut prims = BTreeMap::new(alloc);
     for spec in layer.prims.items() {
+        spec.path.is_path();
         put(&mut prims, &spec.path, Held::of_spec(alloc, spec)?)?;
     }
     Ok(prims)

@@ -123,7 +123,7 @@ pub(crate) fn rename(
     ensures refusal { IfErr result (IsRefusal (after_rename (layer_in prims.old) from.now to.now)) }
     ensures err { OnErr result (layer_in prims.new ≡ layer_in prims.old) }
 {
-    let _ = to.as_text();
+    to.is_path();
     check_move(alloc, prims, from, to)?;
     let places = subtree(alloc, prims, from)?;
     let others = moved_places(alloc, &places, from, to)?;

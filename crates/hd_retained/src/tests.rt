@@ -1,8 +1,7 @@
 //! Worked examples of edits.
 
 ghost use Rattle.std.specs.Prelude.{◌≢◌, [], IfOk, IsTrue};
-ghost use Rattle.hd_usda.specs.WellFormed.{is_below_root};
-ghost use Rattle.hd_usda.specs.WellFormed.{is_property};
+ghost use Rattle.hd_usda.specs.WellFormed.{is_below_root, is_property};
 
 use crate::{EditFault, Retained};
 use hd_path::{Path, Token};

@@ -14,7 +14,7 @@ use Rattle.hd_usda.specs.declared.spec.RawValue.{RawValue}
 use Rattle.hd_usda.specs.declared.spec.RawValue.TheVariants as raw
 use Rattle.hd_usda.specs.Metadata.{is_any}
 use Rattle.hd_usda.specs.Properties.{Row, OpKind, table, op_kinds, row_of, content_of, role_in, role_of, is_target_name, locator_of}
-use Rattle.hd_usda.specs.WellFormed.{has_form, has_value, are_paths, are_words, are_op_entries, are_distinct, is_single, is_list, is_path, is_property, is_prim_spec}
+use Rattle.hd_usda.specs.WellFormed.{has_form, has_value, are_paths, are_words, are_op_entries, are_distinct, is_single, is_list, is_below_root, is_property, is_prim_spec}
 use Rattle.hd_value.specs.declared.value.Value.{Value}
 use Rattle.hd_value.specs.declared.value.Value.TheVariants as value
 use Rattle.hd_value.specs.Locators.{is_same}
@@ -65,7 +65,7 @@ all_lit (v ∷ vs) = rw (lit v.x, lit v.y, lit v.z) (all_lit vs)
 -- the form of what a property's value is
 abbrev pub content_form : Content → RawValue → Bool
 content_form (Attribute role) v = has_form role v
-content_form Targets v = are_paths (is_list is_path) v
+content_form Targets v = are_paths (is_list is_below_root) v
 
 -- a value of the row's form may stand at the row's locator
 IsShaped : Row → Type 0
@@ -127,7 +127,7 @@ op_row_shaped name r v x h made =
 
 pub form_of : (c : Content) (name : List ℕ) (v : RawValue) → has_value (role_in c) name v ≡ true → content_form c v ≡ true
 form_of (Attribute role) name v e = e
-form_of Targets name v e = (and_true (is_target_name name) (are_paths (is_list is_path) v) e).1
+form_of Targets name v e = (and_true (is_target_name name) (are_paths (is_list is_below_root) v) e).1
 
 property_shaped : (p : Property) (at : List (List ℕ)) (x : Value) → is_property p ≡ true → locator_of p.name ≡ Some at → property_value p ≡ Some x → is_authored at x ≡ true
 unfolding content_of role_of value_of IsShaped

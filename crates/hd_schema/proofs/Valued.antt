@@ -19,7 +19,7 @@ use Rattle.hd_usda.specs.declared.spec.RawValue.{RawValue}
 use Rattle.hd_usda.specs.declared.spec.RawValue.TheVariants.{Numbers, Triples, Words, Paths, Matrix}
 use Rattle.hd_usda.specs.Prims.{Path}
 use Rattle.hd_usda.specs.Properties.{Row, OpKind, table, op_kinds, row_of, content_of, role_of, role_in, is_targets, is_target_name, locator_of}
-use Rattle.hd_usda.specs.WellFormed.{has_form, has_value, are_triples, are_numbers, are_words, are_paths, are_rows, is_single, is_list, is_path, are_distinct, is_property, is_prim_spec}
+use Rattle.hd_usda.specs.WellFormed.{has_form, has_value, are_triples, are_numbers, are_words, are_paths, are_rows, is_single, is_list, is_below_root, are_distinct, is_property, is_prim_spec}
 use Rattle.hd_value.specs.declared.value.Value.{Value}
 use Rattle.hd_value.specs.declared.value.Value.TheVariants as value
 use Rattle.hd_value.specs.Maps.{Map}
@@ -201,7 +201,7 @@ used_row {P} p formed k =
       | Some r ↦ λ e. k r e
       | None ↦ λ none.
           let no_role : has_value None p.name p.value ≡ true = ap (λ o. has_value (option_and_then role_in (option_map (λ (s : Row). s.content) o)) p.name p.value) (sym none) ∙ formed in
-          let target = (and_true (is_target_name p.name) (are_paths (is_list is_path) p.value) no_role).0 in
+          let target = (and_true (is_target_name p.name) (are_paths (is_list is_below_root) p.value) no_role).0 in
           true_is_not (sym (ap (λ o. is_targets (option_map (λ (s : Row). s.content) o)) (sym none) ∙ target))
     ] refl
 

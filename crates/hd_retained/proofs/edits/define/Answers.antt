@@ -13,5 +13,5 @@ returns-clause-index c =
     let may : has_parent layer path ≡ true = sym c.in_ok-has_parent.ensures ∙ c.if-not-branch.false in
     record {
       sound = c.in_ok-put.ensures.sound;
-      closed = subst (λ (l : Layer). IsClosed (scene_of l)) (sym c.in_ok-put.ensures.ok) (define_closed layer path (prim_of c.in_ok-of_kind.field-0) c.requires.index.closed c.requires.below_root c.as_text.ensures.path may);
+      closed = subst (λ (l : Layer). IsClosed (scene_of l)) (sym c.in_ok-put.ensures.ok) (define_closed layer path (prim_of c.in_ok-of_kind.field-0) c.requires.index.closed c.requires.below_root c.is_path.ensures may);
     }

@@ -90,7 +90,7 @@ returns-clause-index c =
     let new : layer_in n ≡ renamed (layer_in m) from to = copies_done m k n from to places others c.requires.index.sound c.copy_all.ensures.sound free c.in_ok-places.ensures is made without in
     record {
       sound = without_sound k n places c.copy_all.ensures.sound without;
-      closed = subst (λ (l : Layer). IsClosed (scene_of l)) (sym new) (rename_closed (layer_in m) from to c.requires.index.closed c.requires.from c.requires.to c.as_text.ensures.path c.in_ok-check_move.ensures.ok shallow);
+      closed = subst (λ (l : Layer). IsClosed (scene_of l)) (sym new) (rename_closed (layer_in m) from to c.requires.index.closed c.requires.from c.requires.to c.is_path.ensures c.in_ok-check_move.ensures.ok shallow);
     }
 
 pub returns-clause-done : goal.returns-clause-done

@@ -32,5 +32,5 @@ returns-clause-prim c =
     let p = c.args.property.now in
     let kept = c.in_ok-properties.properties.items in
     let is : c.push.new.self.items ≡ others p.name ps ++ p ∷ [] = pushed_are c.push.new.self.items kept c.items.result.now ps c.text.result.now p.name c.in_ok-copy.field-0 p c.in_ok-push.ensures.items c.in_ok-properties.ensures c.items.ensures c.text.ensures c.in_ok-copy.ensures in
-    prim_from c.with_properties.result c.args.self.now.kind c.push.new.self.items (with_value p (prim_of c.args.self.now)) c.with_properties.ensures.kind c.with_properties.ensures.properties
+    prim_from c.with_properties.result (record { kind = c.args.self.now.kind; properties = properties_of c.push.new.self.items }) (with_value p (prim_of c.args.self.now)) c.with_properties.ensures.prim
     (ap (λ qs. record { kind = c.args.self.now.kind; properties = qs }) (ap properties_of is ∙ others_inserted p ps))

@@ -25,5 +25,5 @@ pub returns-clause-prim : goal.returns-clause-prim
 returns-clause-prim c =
     let kept = c.in_ok-properties.properties.items in
     let is : kept ≡ others c.args.name.now c.args.self.now.properties = others_are kept c.items.result.now c.args.self.now.properties c.text.result.now c.args.name.now c.in_ok-properties.ensures c.items.ensures c.text.ensures in
-    prim_from c.with_properties.result c.args.self.now.kind kept (without_value c.args.name.now (prim_of c.args.self.now)) c.with_properties.ensures.kind c.with_properties.ensures.properties
+    prim_from c.with_properties.result (record { kind = c.args.self.now.kind; properties = properties_of kept }) (without_value c.args.name.now (prim_of c.args.self.now)) c.with_properties.ensures.prim
     (ap (λ ps. record { kind = c.args.self.now.kind; properties = ps }) (ap properties_of is ∙ others_removed c.args.name.now c.args.self.now.properties))
