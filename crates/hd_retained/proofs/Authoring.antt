@@ -89,7 +89,7 @@ named_back [] = refl
 named_back (p ∷ ps) = ap (λ (qs : List Property). p ∷ qs) (named_back ps)
 
 -- the properties by their names are the same ones
-listed_same : (ps : List Property) → SameNames ps (listed (properties_of ps))
+pub listed_same : (ps : List Property) → SameNames ps (listed (properties_of ps))
 listed_same ps name =
     ap (first (has_name name)) (sym (named_back ps))
     ∙ found_by_name (map named_value ps) name
@@ -119,6 +119,10 @@ sorted_distinct (e ∷ es) h =
     let both = both_true (below_all name_cmp e.0 es) (is_sorted name_cmp es) h in
     ap (λ b. not b && are_distinct (map (λ (p : Property). p.name) (map property_of es))) (none_below e.0 es both.0) ∙ sorted_distinct es both.1
 
+-- by their names each stands once
+pub listed_once : (properties : Properties) → IsOnce (listed properties)
+listed_once properties = distinct_once (listed properties) (sorted_distinct (entries properties) (entries_sorted properties))
+
 -- put one by one, the properties hold
 fold_holds : (m : Map) (front rest : List Property) → Holds m front → IsOnce (front ++ rest) → Holds (fold with_property m rest) (front ++ rest)
 fold_holds m front [] holds once = subst (Holds m) (sym (append-nil front)) holds
@@ -128,7 +132,7 @@ fold_holds m front (p ∷ rest) holds once =
 
 -- the values of properties by their names
 pub container_holds : (properties : Properties) → Holds (container_of properties) (listed properties)
-container_holds properties = fold_holds empty [] (listed properties) none_held (distinct_once (listed properties) (sorted_distinct (entries properties) (entries_sorted properties)))
+container_holds properties = fold_holds empty [] (listed properties) none_held (listed_once properties)
 
 -- what answers as the properties author is what they author
 pub container_is : (m : Map) (ps : List Property) → Holds m ps → m ≡ container_of (properties_of ps)

@@ -6,6 +6,7 @@ pub mod Depths
 pub mod Gathering
 pub mod PathsFrom
 pub mod Shaped
+pub mod Used
 pub mod Closed
 pub mod Spelled
 pub mod Moving

@@ -1,5 +1,5 @@
 -- A layer is a finite map from paths to prims. A prim has a kind, and values by the names of its properties.
-use Rattle.std.specs.Prelude.{◌↔◌, ℕ, List, map, length, Option, IsSome, IsTrue, Contains, refl}
+use Rattle.std.specs.Prelude.{◌≡◌, ◌↔◌, ℕ, List, All, map, length, Option, Some, IsSome, IsTrue, Contains, refl}
 use Rattle.std.specs.List.{fold}
 use Rattle.std.specs.List.Sorted.{IsStrictlySortedBy}
 use Rattle.std.specs.Option.{option_map}
@@ -13,6 +13,7 @@ use Rattle.hd_usda.specs.contracts.spec.RawValue as raw
 use Rattle.hd_usda.specs.declared.spec.Property.{Property}
 use Rattle.hd_usda.specs.declared.spec.PrimSpec.{PrimSpec}
 use Rattle.hd_usda.specs.declared.spec.LayerSpec.{LayerSpec}
+use Rattle.hd_usda.specs.WellFormed.{is_property}
 use Rattle.hd_value.specs.Locators.{is_prefix}
 use Rattle.hd_value.specs.Maps.{Map}
 use Rattle.hd_schema.specs.Authored.{with_property}
@@ -81,6 +82,10 @@ scene_of layer = from_entries (map entry_at_path (entries layer))
 -- the kind of the prim at a path, if there is one
 abbrev pub kind_in : Layer → List (List ℕ) → Option (List ℕ)
 kind_in layer path = option_map (λ (p : LayerPrim). p.kind) (get layer path)
+
+-- each property of each prim is a used one whose value has its form
+abbrev pub AreUsed : Layer → Type 0
+AreUsed layer = (path : List (List ℕ)) (p : LayerPrim) → get layer path ≡ Some p → All (λ q. IsTrue (is_property q)) (listed p.properties)
 
 -- fewer names first, and paths of as many names in their order
 abbrev pub depth_cmp : List (List ℕ) → List (List ℕ) → Ordering

@@ -5,7 +5,7 @@ ghost use Rattle.std.specs.FinMap.{get};
 ghost use Rattle.hd_usda.specs.WellFormed.{is_property, is_layer};
 ghost use Rattle.hd_value.specs.Shapes.{is_authored};
 ghost use Rattle.hd_scene.specs.Scenes.{prim_of, children_of, IsClosed, IsShapedBy};
-ghost use Rattle.hd_retained.specs.Layers.{layer_of, scene_of, kind_in, ArePathsFrom};
+ghost use Rattle.hd_retained.specs.Layers.{layer_of, scene_of, kind_in, AreUsed, ArePathsFrom};
 ghost use Rattle.hd_retained.specs.Edits.{after_define, after_set, after_clear, after_remove, after_rename, IsRefusal};
 
 use crate::fault::EditFault;
@@ -88,6 +88,13 @@ impl Layer {
     /// Each value is one that a text can author: a fact for proofs, which costs nothing.
     pub(crate) fn is_shaped(&self)
         ensures { IsShapedBy is_authored (scene_of self.now) }
+    {
+        let _ = &self.prims;
+    }
+
+    /// Each property is a used one whose value has its form: a fact for proofs, which costs nothing.
+    pub(crate) fn has_used_properties(&self)
+        ensures { AreUsed self.now }
     {
         let _ = &self.prims;
     }

@@ -8,7 +8,7 @@ ghost use Rattle.hd_schema.specs.Places.{locators_of};
 ghost use Rattle.hd_scene.specs.declared.notice.Notice.TheVariants.{Added, Removed, Dirtied, Renamed};
 ghost use Rattle.hd_value.specs.Shapes.{is_authored};
 ghost use Rattle.hd_scene.specs.Scenes.{IsClosed, IsShapedBy};
-ghost use Rattle.hd_retained.specs.Layers.{layer_of, scene_of, kind_in, ArePathsFrom};
+ghost use Rattle.hd_retained.specs.Layers.{layer_of, scene_of, kind_in, AreUsed, ArePathsFrom};
 ghost use Rattle.hd_retained.specs.Edits.{after_define, after_set, after_set_if_used, after_clear, after_remove, after_rename, edited, dirtied, notices_of_edit, IsRefusal};
 
 use crate::fault::EditFault;
@@ -94,6 +94,13 @@ impl Retained {
         ensures { IsShapedBy is_authored (scene_of self.now.layer) }
     {
         self.layer.is_shaped();
+    }
+
+    /// Each property of the layer is a used one whose value has its form: a fact for proofs, which costs nothing.
+    pub fn has_used_properties(&self)
+        ensures { AreUsed self.now.layer }
+    {
+        self.layer.has_used_properties();
     }
 
     /// The kind of the prim at a path, if there is one. The call fails for want of memory alone.

@@ -106,7 +106,7 @@ counted_in {X} test (y ∷ ys) x passes h =
     ] h.1 h.2
 
 -- the only one that passes is found
-found_only : {X : Type 0} (test : X → Bool) (xs : List X) (x : X) → count test xs ≤ 1 → test x ≡ true → Contains xs x → find test xs ≡ Some x
+pub found_only : {X : Type 0} (test : X → Bool) (xs : List X) (x : X) → count test xs ≤ 1 → test x ≡ true → Contains xs x → find test xs ≡ Some x
 found_only test [] x once passes h = absurd (omega (arith, h.1))
 found_only {X} test (y ∷ ys) x once passes h =
     elim h.0 as (λ k. k < length (y ∷ ys) → slice_index_or (y ∷ ys) k x ≡ x → cond (test y) (Some y) (find test ys) ≡ Some x) [
