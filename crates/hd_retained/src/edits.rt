@@ -13,9 +13,6 @@ use hd_usda::{Property, Which};
 use std::alloc::{AllocError, Global};
 use std::collections::BTreeMap;
 
-/// How many prims a layer has at most.
-const MAX_PRIMS: usize = 65_536;
-
 /// Whether a prim at the path would be one more than a layer may have.
 fn is_full_for(prims: &BTreeMap<Place, Held>, path: &Path) -> Result<bool, AllocError>
     requires { IsSound prims.now }
@@ -24,7 +21,7 @@ fn is_full_for(prims: &BTreeMap<Place, Held>, path: &Path) -> Result<bool, Alloc
     if find(prims, path)?.is_some() {
         return Ok(false);
     }
-    Ok(prims.len() >= MAX_PRIMS)
+    Ok(prims.len() as u64 >= Which::Prims.number())
 }
 
 /// Puts a prim of this kind, without properties, at a path.

@@ -96,7 +96,7 @@ impl Session {
     {
         self.is_spent = true;
         match command {
-            Command::Layer(number) => self.current = layer_of(self.stack.layers(), *number)?,
+            Command::Layer(number) => self.current = layer_number(self.stack.layers(), *number)?,
             Command::Edit(edit) => {
                 change(&mut self.stack, &mut self.rows, self.current, alloc, edit)?
             }
@@ -136,7 +136,7 @@ impl Session {
 }
 
 /// The layer of this number among so many, counted from 0.
-fn layer_of(count: usize, number: u32) -> Result<usize, Refusal>
+fn layer_number(count: usize, number: u32) -> Result<usize, Refusal>
     ensures found { IfOk result (λ layer. layer ≡ number) }
     ensures there { OnOk result (number < count) }
     ensures refusal { IfErr result (λ why. why ≡ Script NoLayer) }

@@ -8,8 +8,4 @@ pub use laws::{composing_is_associative, scenes_are_bounded, the_strongest_value
 pub use stack::{Stack, Terminal};
 
 #[cfg(test)]
-mod scene_tests;
-#[cfg(test)]
-mod scenes;
-#[cfg(test)]
 mod tests;

@@ -3,6 +3,9 @@
 ghost use Rattle.std.specs.Prelude.{◌<◌, All, IfOk, IfSome, IsTrue};
 ghost use Rattle.hd_usda.specs.WellFormed.{is_below_root, is_layer};
 
+mod scene_tests;
+mod scenes;
+
 use crate::Stack;
 use hd_path::{Path, Token};
 use hd_retained::EditFault;

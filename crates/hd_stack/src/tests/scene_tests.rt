@@ -1,8 +1,8 @@
 //! What prims have in scenes of several layers.
 
+use super::scenes::{GROUPS, SCENES, STEPS};
+use super::{made, set, stack_of};
 use crate::Stack;
-use crate::scenes::{GROUPS, SCENES, STEPS};
-use crate::tests::{made, set, stack_of};
 use hd_num::{Matrix, Rgb};
 use hd_path::Path;
 use hd_scene::{Prim, SceneIndex};
