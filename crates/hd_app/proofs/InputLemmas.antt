@@ -20,7 +20,7 @@ use Rattle.hd_app.specs.declared.status.Place.{Place}
 use Rattle.hd_app.specs.declared.status.Place.TheVariants.{Words, File, Line}
 use Rattle.hd_app.specs.Commands.{draw, step, HasFewLayers}
 use Rattle.hd_app.specs.Outcomes.{outcome_of, drawn_if_read, layer_in, layers_in, with_layer, script_in, stepped, stepped_if_read}
-use Rattle.hd_app.specs.Outside.{byte_limit}
+use Rattle.hd_app.specs.Reading.{byte_limit}
 use Rattle.hd_app.specs.Refusing.{refused}
 use Rattle.hd_app.specs.Runs.{ShelfState, FailedAt, PassesLimit, SpellLayers, IsReached, RefusesLayer, RefusesLayers, RefusesScript, RefusesFiles}
 use Rattle.hd_app.specs.Scripts.{lines_of, outcome_of_lines}

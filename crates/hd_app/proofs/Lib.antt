@@ -4,11 +4,11 @@ pub mod CutLemmas
 pub mod EndLemmas
 pub mod Fanning
 pub mod FrameLemmas
+pub mod Fronts
 pub mod InputLemmas
 pub mod LineLemmas
 pub mod NameLemmas
 pub mod Nearness
-pub mod Reading
 pub mod RunLemmas
 pub mod ScriptLemmas
 pub mod TextLemmas

@@ -7,7 +7,7 @@ pub mod Frames
 pub mod Laws
 pub mod Lines
 pub mod Outcomes
-pub mod Outside
+pub mod Reading
 pub mod Refusing
 pub mod RootDraws
 pub mod Runs

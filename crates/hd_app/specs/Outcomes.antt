@@ -18,7 +18,7 @@ use Rattle.hd_app.specs.declared.status.Status.{Status}
 use Rattle.hd_app.specs.declared.status.Status.TheVariants.{Done, Usage, Layer, Limit, ReadFault}
 use Rattle.hd_app.specs.declared.status.Place.TheVariants.{Words, File, Line}
 use Rattle.hd_app.specs.Commands.{Program, draw, step, command}
-use Rattle.hd_app.specs.Outside.{byte_limit}
+use Rattle.hd_app.specs.Reading.{byte_limit}
 use Rattle.hd_app.specs.Refusing.{Outcome, refused}
 use Rattle.hd_app.specs.RootDraws.{root_draws}
 use Rattle.hd_app.specs.Scripts.{lines_of, outcome_of_lines}

@@ -6,9 +6,9 @@ use Rattle.hd_app.specs.declared.status.Status.{Status}
 use Rattle.hd_app.specs.declared.status.Status.TheVariants.{Done, Usage, Layer, Script, Limit, ReadFault, WriteFault, NoMemory}
 use Rattle.hd_app.specs.declared.status.Place.{Place}
 use Rattle.hd_app.specs.declared.status.Place.TheVariants.{Words, File, Line}
-use Rattle.hd_app.specs.declared.outside.ReadStop.{ReadStop}
-use Rattle.hd_app.specs.declared.outside.ReadStop.TheVariants.{Failed, TooLong}
-use Rattle.hd_app.specs.declared.outside.ReadStop.TheVariants as stops
+use Rattle.hd_app.specs.declared.reading.ReadStop.{ReadStop}
+use Rattle.hd_app.specs.declared.reading.ReadStop.TheVariants.{Failed, TooLong}
+use Rattle.hd_app.specs.declared.reading.ReadStop.TheVariants as stops
 use Rattle.hd_usda.specs.declared.fault.LayerFault.{LayerFault}
 use Rattle.hd_usda.specs.declared.fault.LayerFault.TheVariants.{At}
 use Rattle.hd_usda.specs.declared.fault.LayerFault.TheVariants as faults
@@ -19,7 +19,7 @@ use Rattle.hd_io.specs.Acts.{Outside, WroteCut}
 use Rattle.hd_app.specs.Commands.{Program, draw, step, layer_names, file_names, HasFewLayers}
 use Rattle.hd_app.specs.Endings.{Ends, IsReadFault}
 use Rattle.hd_app.specs.Outcomes.{outcome_of, refusal_at, layer_in, layer_of_bytes, script_in}
-use Rattle.hd_app.specs.Outside.{byte_limit}
+use Rattle.hd_app.specs.Reading.{byte_limit}
 use Rattle.hd_app.specs.Refusing.{Outcome, refused}
 
 -- what a shelf says of itself: its files where it tells them, its count of faults, the name that failed last, and the bytes taken

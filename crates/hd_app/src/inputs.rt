@@ -5,12 +5,12 @@ ghost use Rattle.hd_session.specs.States.{opened};
 ghost use Rattle.hd_usda.specs.WellFormed.{is_layer};
 ghost use Rattle.hd_app.specs.Commands.{step};
 ghost use Rattle.hd_app.specs.Outcomes.{layers_in, script_in, stepped};
-ghost use Rattle.hd_app.specs.Outside.{byte_limit};
+ghost use Rattle.hd_app.specs.Reading.{byte_limit};
 ghost use Rattle.hd_app.specs.Runs.{shelf_state, RefusesLayers, RefusesScript, RefusesFiles, ReadsWithin};
 ghost use Rattle.hd_app.specs.Scripts.{lines_of, outcome_of_lines};
 
 use crate::layer::{name_of, read_layer, stopped};
-use crate::outside::read_file;
+use crate::reading::read_file;
 use crate::status::{Place, Status};
 use hd_io::Shelf;
 use hd_usda::{LayerSpec, Which};

@@ -3,10 +3,10 @@
 ghost use Rattle.std.specs.Prelude.{◌≡◌, ◌≤◌, length, IfOk, IfErr, IfSome, IsTrue, OnOk, Ok};
 ghost use Rattle.hd_usda.specs.WellFormed.{is_layer};
 ghost use Rattle.hd_app.specs.Outcomes.{layer_in, layer_of_bytes, refusal_at};
-ghost use Rattle.hd_app.specs.Outside.{byte_limit};
+ghost use Rattle.hd_app.specs.Reading.{byte_limit};
 ghost use Rattle.hd_app.specs.Runs.{shelf_state, status_of_stop, status_of_fault, RefusesBytes, RefusesLayer, ReadsWithin};
 
-use crate::outside::{ReadStop, read_file};
+use crate::reading::{ReadStop, read_file};
 use crate::status::{Place, Status};
 use hd_io::Shelf;
 use hd_num::List;

@@ -8,7 +8,7 @@ mod layer;
 #[cfg(test)]
 mod layer_tests;
 mod meshes;
-mod outside;
+mod reading;
 #[cfg(test)]
 mod refusal_tests;
 mod script;

@@ -6,7 +6,7 @@ ghost use Rattle.hd_io.specs.Acts.{outside, Wrote, NoFault};
 ghost use Rattle.hd_app.specs.Endings.{EndsWhole, IsDecided, IsReadFault, IsBrokenOff};
 ghost use Rattle.hd_app.specs.Outcomes.{outcome};
 ghost use Rattle.hd_app.specs.Refusing.{refused};
-ghost use Rattle.hd_app.specs.Outside.{byte_limit};
+ghost use Rattle.hd_app.specs.Reading.{byte_limit};
 ghost use Rattle.hd_app.specs.Commands.{command, draw, step};
 ghost use Rattle.hd_app.specs.Runs.{shelf_state, ReadsWithin, Runs, IsAnswerTo, LeavesOpen, BrokeOff};
 

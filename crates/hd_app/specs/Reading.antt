@@ -2,8 +2,8 @@
 use Rattle.std.specs.Prelude.{◌≡◌, ◌<◌, ℕ, List, length, Option, IfSome, IsSomeAnd, Some, Result, Ok, Err}
 use Rattle.hd_usda.specs.declared.limits.Which.TheVariants.{Bytes}
 use Rattle.hd_usda.specs.Limits.{limit_of}
-use Rattle.hd_app.specs.declared.outside.ReadStop.{ReadStop}
-use Rattle.hd_app.specs.declared.outside.ReadStop.TheVariants.{Failed, TooLong, NoMemory}
+use Rattle.hd_app.specs.declared.reading.ReadStop.{ReadStop}
+use Rattle.hd_app.specs.declared.reading.ReadStop.TheVariants.{Failed, TooLong, NoMemory}
 use Rattle.hd_io.specs.declared.fault.OutsideFault.{OutsideFault}
 use Rattle.hd_io.specs.declared.fault.OutsideFault.TheVariants as faults
 use Rattle.hd_io.specs.Files.{FileMap, open_bytes}

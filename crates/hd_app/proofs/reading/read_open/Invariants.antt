@@ -1,9 +1,9 @@
 use Rattle.std.proofs.Common.{◌≡◌, ◌+◌, ◌-◌, ◌≤◌, vec_len}
 use Rattle.std.specs.Prelude.{IfSome, IsSomeAnd}
 use Rattle.hd_io.specs.Files.{open_bytes}
-use Rattle.hd_app.specs.Outside.{byte_limit}
-use Rattle.hd_app.proofs.Reading.{IsFront}
-use Rattle.hd_app.proofs.outside.read_open.Given as goal
+use Rattle.hd_app.specs.Reading.{byte_limit}
+use Rattle.hd_app.proofs.Fronts.{IsFront}
+use Rattle.hd_app.proofs.reading.read_open.Given as goal
 
 abbrev pub invariant-reading : goal.invariant-reading
 invariant-reading g l = record {

@@ -1,7 +1,7 @@
 use Rattle.std.proofs.Common.{arith, ◌∙◌}
 use Rattle.std.proofs.lemmas.Grind.{common_steps}
-use Rattle.hd_app.proofs.Reading.{all_grow}
-use Rattle.hd_app.proofs.outside.read_open.Goals as goal
+use Rattle.hd_app.proofs.Fronts.{all_grow}
+use Rattle.hd_app.proofs.reading.read_open.Goals as goal
 
 pub reading-preserved : goal.reading-preserved
 reading-preserved g c = record {
