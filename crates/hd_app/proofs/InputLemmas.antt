@@ -22,7 +22,7 @@ use Rattle.hd_app.specs.Commands.{draw, step, HasFewLayers}
 use Rattle.hd_app.specs.Outcomes.{outcome_of, drawn_if_read, layer_in, layers_in, with_layer, script_in, stepped, stepped_if_read}
 use Rattle.hd_app.specs.Reading.{byte_limit}
 use Rattle.hd_app.specs.Refusing.{refused}
-use Rattle.hd_app.specs.Runs.{ShelfState, FailedAt, PassesLimit, SpellLayers, IsReached, RefusesLayer, RefusesLayers, RefusesScript, RefusesFiles}
+use Rattle.hd_app.specs.Runs.{ShelfState, FailedAt, TookTooMuch, PassesLimit, SpellLayers, IsReached, RefusesLayer, RefusesLayers, RefusesScript, RefusesFiles}
 use Rattle.hd_app.specs.Scripts.{lines_of, outcome_of_lines}
 
 -- layers that were read, and what is to be read behind them
@@ -141,7 +141,7 @@ refused_from : (name : List ℕ) (before between now : ShelfState) (status : Sta
     → RefusesLayer name between now status → RefusesLayer name before now status
 refused_from name before between now (ReadFault file) files faults why =
     (why.0, record { rose = subst (λ (n : ℕ). Rose n now.faults) faults why.1.rose; named = why.1.named })
-refused_from name before between now (Layer file line cause) files faults why = (why.0 ∙ faults, why.1, refused_told name (Layer file line cause) before.files between.files files why.2)
+refused_from name before between now (Layer file line cause) files faults why = (why.0 ∙ faults, why.1, why.2, refused_told name (Layer file line cause) before.files between.files files why.3)
 refused_from name before between now (Limit place which count) files faults why = (why.0 ∙ faults, why.1, refused_told name (Limit place which count) before.files between.files files why.2)
 refused_from name before between now NoMemory files faults why = why ∙ faults
 refused_from name before between now (Script line cause) files faults why = why
@@ -199,8 +199,8 @@ pub layer_refuses : (name out : List ℕ) (before now : ShelfState) (status : St
 layer_refuses name out before now (ReadFault file) why = (reached_first name out before.files file why.0, failed_named name file before now why.0 why.1)
 layer_refuses name out before now (Layer file line cause) why = record {
   faults = why.0;
-  answer = (draws_one name out, named_first name file why.1);
-  told = told_refused name out (Layer file line cause) before.files why.2;
+  answer = ((draws_one name out, named_first name file why.1), why.2);
+  told = told_refused name out (Layer file line cause) before.files why.3;
 }
 layer_refuses name out before now (Limit (File file) which count) why = record {
   faults = why.0;
@@ -209,7 +209,7 @@ layer_refuses name out before now (Limit (File file) which count) why = record {
 }
 layer_refuses name out before now (Limit (Line file line) which count) why = record {
   faults = why.0;
-  answer = (draws_one name out, named_first name file why.1.0, why.1.1);
+  answer = (draws_one name out, named_first name file why.1.0, why.1.1, why.1.2);
   told = told_refused name out (Limit (Line file line) which count) before.files why.2;
 }
 layer_refuses name out before now (Limit Words which count) why = absurd why.1
@@ -265,8 +265,8 @@ one_layer_refuses layers script before now place name (ReadFault file) few named
     (reached_layer layers script place name before.files file few named spelled why.0, failed_named name file before now why.0 why.1)
 one_layer_refuses layers script before now place name (Layer file line cause) few named spelled why = record {
   faults = why.0;
-  answer = (few, is_named layers place name file named why.1);
-  told = told_layers layers script place name (Layer file line cause) before.files few named spelled why.2;
+  answer = ((few, is_named layers place name file named why.1), why.2);
+  told = told_layers layers script place name (Layer file line cause) before.files few named spelled why.3;
 }
 one_layer_refuses layers script before now place name (Limit (File file) which count) few named spelled why = record {
   faults = why.0;
@@ -275,7 +275,7 @@ one_layer_refuses layers script before now place name (Limit (File file) which c
 }
 one_layer_refuses layers script before now place name (Limit (Line file line) which count) few named spelled why = record {
   faults = why.0;
-  answer = (few, Contains-append_left layers (script ∷ []) file (is_named layers place name file named why.1.0), why.1.1);
+  answer = (few, Contains-append_left layers (script ∷ []) file (is_named layers place name file named why.1.0), why.1.1, why.1.2);
   told = told_layers layers script place name (Limit (Line file line) which count) before.files few named spelled why.2;
 }
 one_layer_refuses layers script before now place name (Limit Words which count) few named spelled why = absurd why.1
@@ -326,7 +326,7 @@ script_named layers script =
     ∙ ap (λ (n : List ℕ). Some n) (get_or-append_seam layers script [] [])
 
 script_limit : (layers : List (List ℕ)) (script : List ℕ) (now : ShelfState) (place : Place) (which : Which) (count : ℕ) → length layers ≤ 8
-    → place ≡ File script → which ≡ Bytes → count ≡ byte_limit → now.taken ≡ byte_limit + 1 → PassesLimit (step layers script) now place which count
+    → place ≡ File script → which ≡ Bytes → count ≡ byte_limit → TookTooMuch now script → PassesLimit (step layers script) now place which count
 script_limit layers script now place which count few is bytes limit taken =
     subst (λ (p : Place). PassesLimit (step layers script) now p which count) (sym is) (few, Contains-push layers script, bytes, limit, taken)
 

@@ -26,7 +26,7 @@ use Rattle.hd_app.specs.Commands as program
 use Rattle.hd_app.specs.Endings.{Ends, IsReadFault}
 use Rattle.hd_app.specs.Outcomes.{stepped}
 use Rattle.hd_app.specs.Refusing.{Outcome}
-use Rattle.hd_app.specs.Runs.{ShelfState, IsAnswerTo, Runs}
+use Rattle.hd_app.specs.Runs.{ShelfState, IsOpen, IsAnswerTo, Runs}
 use Rattle.hd_app.specs.Scripts.{LineStep, line_refusal, line_step, step_of_line, continued, lines_of, outcome_of_lines}
 use Rattle.hd_app.proofs.RunLemmas.{ran_runs}
 
@@ -80,18 +80,18 @@ script_ends name number s (line ∷ lines) =
     (line_ends name number s (reads_line line) (no_want line)) (λ after. script_ends name (number + 1) after lines)
 
 -- what such an ending says of itself
-pub script_answers : (layers : List (List ℕ)) (name : List ℕ) (shelf : ShelfState) (status : Status) → length layers ≤ 8 → EndsScript name status → IsAnswerTo (Some (step layers name)) shelf status
-script_answers layers name shelf Done few ends = few
-script_answers layers name shelf (Script line cause) few ends = (few, tt)
-script_answers layers name shelf (Limit (Line file line) which count) few ends =
-    (few, subst (λ (f : List ℕ). Contains (layers ++ name ∷ []) f) (sym ends.0) (Contains-push layers name), ends.1)
-script_answers layers name shelf (Limit Words which count) few ends = absurd ends
-script_answers layers name shelf (Limit (File file) which count) few ends = absurd ends
-script_answers layers name shelf NoMemory few ends = absurd ends
-script_answers layers name shelf Usage few ends = absurd ends
-script_answers layers name shelf (Layer file line cause) few ends = absurd ends
-script_answers layers name shelf (ReadFault file) few ends = absurd ends
-script_answers layers name shelf WriteFault few ends = absurd ends
+pub script_answers : (layers : List (List ℕ)) (name : List ℕ) (shelf : ShelfState) (status : Status) → length layers ≤ 8 → IsOpen shelf name → EndsScript name status → IsAnswerTo (Some (step layers name)) shelf status
+script_answers layers name shelf Done few is_open ends = few
+script_answers layers name shelf (Script line cause) few is_open ends = (few, tt)
+script_answers layers name shelf (Limit (Line file line) which count) few is_open ends =
+    (few, subst (λ (f : List ℕ). Contains (layers ++ name ∷ []) f) (sym ends.0) (Contains-push layers name), ends.1, subst (IsOpen shelf) (sym ends.0) is_open)
+script_answers layers name shelf (Limit Words which count) few is_open ends = absurd ends
+script_answers layers name shelf (Limit (File file) which count) few is_open ends = absurd ends
+script_answers layers name shelf NoMemory few is_open ends = absurd ends
+script_answers layers name shelf Usage few is_open ends = absurd ends
+script_answers layers name shelf (Layer file line cause) few is_open ends = absurd ends
+script_answers layers name shelf (ReadFault file) few is_open ends = absurd ends
+script_answers layers name shelf WriteFault few is_open ends = absurd ends
 
 pub script_reads : (name : List ℕ) (status : Status) → EndsScript name status → IsReadFault status → ⊥
 script_reads name (ReadFault file) ends is = ends
@@ -142,11 +142,11 @@ some_layers (word ∷ words) layers script is =
 
 -- a script that was run over layers that were read
 pub stepped_runs : (layers : List (List ℕ)) (script : List ℕ) (read : List LayerSpec) (bytes : List ℕ) (shelf_before shelf_now : ShelfState) (before now : Outside) (status : Status) → length layers ≤ 8
-    → IfSome shelf_before.files (λ files. stepped files layers script ≡ outcome_of_lines script 1 (opened read) (lines_of bytes)) → shelf_now.faults ≡ shelf_before.faults
+    → IfSome shelf_before.files (λ files. stepped files layers script ≡ outcome_of_lines script 1 (opened read) (lines_of bytes)) → shelf_now.faults ≡ shelf_before.faults → IsOpen shelf_now script
     → Ends (outcome_of_lines script 1 (opened read) (lines_of bytes)) before now status → Runs (Some (step layers script)) shelf_before shelf_now before now status
-stepped_runs layers script read bytes shelf_before shelf_now before now status few told kept ends =
+stepped_runs layers script read bytes shelf_before shelf_now before now status few told kept is_open ends =
     let own = script_ends script 1 (opened read) (lines_of bytes) in
     ran_runs (step layers script) (outcome_of_lines script 1 (opened read) (lines_of bytes)) shelf_before shelf_now before now status told kept
-    (script_answers layers script shelf_now (outcome_of_lines script 1 (opened read) (lines_of bytes)).ending few own)
+    (script_answers layers script shelf_now (outcome_of_lines script 1 (opened read) (lines_of bytes)).ending few is_open own)
     (script_reads script (outcome_of_lines script 1 (opened read) (lines_of bytes)).ending own)
     (script_writes script (outcome_of_lines script 1 (opened read) (lines_of bytes)).ending own) ends

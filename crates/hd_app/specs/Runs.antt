@@ -22,36 +22,49 @@ use Rattle.hd_app.specs.Outcomes.{outcome_of, refusal_at, layer_in, layer_of_byt
 use Rattle.hd_app.specs.Reading.{byte_limit}
 use Rattle.hd_app.specs.Refusing.{Outcome, refused}
 
--- what a shelf says of itself: its files where it tells them, its count of faults, the name that failed last, and the bytes taken
+-- what a shelf says of itself: its files where it tells them, the name of the open one, its count of faults, the name that
+-- failed last, and how many bytes were taken from the open file
 pub record ShelfState : Type 0 where
   pub files : Option FileMap
+  pub opened : Option (List ℕ)
   pub faults : ℕ
   pub failed : Option (List ℕ)
   pub taken : ℕ
 
-abbrev pub shelf_state : Option FileMap → ℕ → Option (List ℕ) → ℕ → ShelfState
-shelf_state files faults failed taken = record { files = files; faults = faults; failed = failed; taken = taken }
+abbrev pub shelf_state : Option FileMap → Option (List ℕ) → ℕ → Option (List ℕ) → ℕ → ShelfState
+shelf_state files opened faults failed taken = record { files = files; opened = opened; faults = faults; failed = failed; taken = taken }
 
 -- the shelf failed at the file of this name
 pub record FailedAt (name : List ℕ) (before now : ShelfState) : Type 0 where
   pub rose : Rose before.faults now.faults
   pub named : now.failed ≡ Some name
 
+-- the file of this name is the open one
+abbrev pub IsOpen : ShelfState → List ℕ → Type 0
+IsOpen shelf file = shelf.opened ≡ Some file
+
+-- one byte more than the limit was taken from the file of this name
+pub record TookTooMuch (shelf : ShelfState) (file : List ℕ) : Type 0 where
+  pub opened : IsOpen shelf file
+  pub taken : shelf.taken ≡ byte_limit + 1
+
 -- a reading takes at most one byte more than the limit, and changes no file
 pub record ReadsWithin (before now : ShelfState) : Type 0 where
   pub files : now.files ≡ before.files
   pub taken : now.taken ≤ max before.taken (byte_limit + 1)
 
--- a limit that the file of this name passes: that of its bytes, of which one more was taken, or one in a line of its text
+-- a limit that the file of this name, which is open, passes: that of its bytes, of which one more was taken, or one in a line of
+-- its text
 abbrev pub FilePassesLimit : List ℕ → ShelfState → Place → Which → ℕ → Type 0
-FilePassesLimit name shelf (File file) which count = (file ≡ name) × (which ≡ Bytes) × (count ≡ byte_limit) × (shelf.taken ≡ byte_limit + 1)
-FilePassesLimit name shelf (Line file line) which count = (file ≡ name) × (count ≡ limit_of which)
+FilePassesLimit name shelf (File file) which count = (file ≡ name) × (which ≡ Bytes) × (count ≡ byte_limit) × TookTooMuch shelf file
+FilePassesLimit name shelf (Line file line) which count = (file ≡ name) × (count ≡ limit_of which) × IsOpen shelf file
 FilePassesLimit name shelf Words which count = ⊥
 
 -- why the layer of this name was refused
 abbrev pub RefusesLayer : List ℕ → (before now : ShelfState) → Status → Type 0
 RefusesLayer name before now (ReadFault file) = (file ≡ name) × FailedAt name before now
-RefusesLayer name before now (Layer file line why) = (now.faults ≡ before.faults) × (file ≡ name) × IfSome before.files (λ files. layer_in files name ≡ Err (Layer file line why))
+RefusesLayer name before now (Layer file line why) =
+    (now.faults ≡ before.faults) × (file ≡ name) × IsOpen now file × IfSome before.files (λ files. layer_in files name ≡ Err (Layer file line why))
 RefusesLayer name before now (Limit place which count) =
     (now.faults ≡ before.faults) × FilePassesLimit name now place which count × IfSome before.files (λ files. layer_in files name ≡ Err (Limit place which count))
 RefusesLayer name before now NoMemory = now.faults ≡ before.faults
@@ -104,7 +117,7 @@ RefusesLayers names before now status = RefusesOneLayer names before now status 
 abbrev pub RefusesScript : List ℕ → (before now : ShelfState) → Status → Type 0
 RefusesScript name before now (ReadFault file) = (file ≡ name) × FailedAt name before now
 RefusesScript name before now (Limit place which count) =
-    (now.faults ≡ before.faults) × (place ≡ File name) × (which ≡ Bytes) × (count ≡ byte_limit) × (now.taken ≡ byte_limit + 1)
+    (now.faults ≡ before.faults) × (place ≡ File name) × (which ≡ Bytes) × (count ≡ byte_limit) × TookTooMuch now name
     × IfSome before.files (λ files. script_in files name ≡ Err (Limit place which count))
 RefusesScript name before now NoMemory = now.faults ≡ before.faults
 RefusesScript name before now (Layer file line why) = ⊥
@@ -121,22 +134,23 @@ pub record IsReached (program : Program) (files : Option FileMap) (file : List �
   pub named : slice_get (file_names program) place ≡ Some file
   pub before : IfSome files (λ map. SpellLayers map (take place (file_names program)))
 
--- a limit that is passed: that of the layers, by the words; and else that of the bytes of a file, of which one more was taken,
--- or one in a line of a file
+-- a limit that is passed: that of the layers, by the words; and else that of the bytes of the open file, of which one more was
+-- taken, or one in a line of the open file
 abbrev pub PassesLimit : Program → ShelfState → Place → Which → ℕ → Type 0
 PassesLimit program shelf Words which count = (which ≡ Layers) × (count ≡ limit_of Layers) × (count < length (layer_names program))
-PassesLimit program shelf (File file) which count = HasFewLayers program × Contains (file_names program) file × (which ≡ Bytes) × (count ≡ byte_limit) × (shelf.taken ≡ byte_limit + 1)
-PassesLimit program shelf (Line file line) which count = HasFewLayers program × Contains (file_names program) file × (count ≡ limit_of which)
+PassesLimit program shelf (File file) which count = HasFewLayers program × Contains (file_names program) file × (which ≡ Bytes) × (count ≡ byte_limit) × TookTooMuch shelf file
+PassesLimit program shelf (Line file line) which count = HasFewLayers program × Contains (file_names program) file × (count ≡ limit_of which) × IsOpen shelf file
 
 abbrev pub HasScript : Program → Type 0
 HasScript (draw layer out) = ⊥
 HasScript (step layers script) = Unit {0}
 
--- what an answer says of itself, whether or not the files are told. A layer too many is answered by its limit alone
+-- what an answer says of itself, whether or not the files are told: a file that it names is the one that is open, or the one at
+-- which the shelf failed. A layer too many is answered by its limit alone
 abbrev pub IsAnswerTo : Option Program → ShelfState → Status → Type 0
 IsAnswerTo program shelf Done = IsSomeAnd program HasFewLayers
 IsAnswerTo program shelf Usage = program ≡ None
-IsAnswerTo program shelf (Layer file line why) = IsSomeAnd program (λ p. HasFewLayers p × Contains (layer_names p) file)
+IsAnswerTo program shelf (Layer file line why) = IsSomeAnd program (λ p. HasFewLayers p × Contains (layer_names p) file) × IsOpen shelf file
 IsAnswerTo program shelf (Script line cause) = IsSomeAnd program (λ p. HasFewLayers p × HasScript p)
 IsAnswerTo program shelf (Limit place which count) = IsSomeAnd program (λ p. PassesLimit p shelf place which count)
 IsAnswerTo program shelf (ReadFault file) = IsSomeAnd program (λ p. IsReached p shelf.files file) × (shelf.failed ≡ Some file)

@@ -1,6 +1,6 @@
 //! The files of a command that runs a script.
 
-ghost use Rattle.std.specs.Prelude.{◌≡◌, ◌≤◌, length, map, string_bytes, All, IfOk, IfErr, IfSome, IsTrue, OnOk, Ok, vec_len};
+ghost use Rattle.std.specs.Prelude.{◌≡◌, ◌≤◌, length, map, string_bytes, All, IfOk, IfErr, IfSome, IsTrue, OnOk, Ok, Some, vec_len};
 ghost use Rattle.hd_session.specs.States.{opened};
 ghost use Rattle.hd_usda.specs.WellFormed.{is_layer};
 ghost use Rattle.hd_app.specs.Commands.{step};
@@ -27,11 +27,11 @@ fn read_layers<S: Shelf>(
     ensures all { IfOk result (λ layers. vec_len layers ≡ length names.now) }
     ensures kept { OnOk result (S.faults shelf.new ≡ S.faults shelf.old) }
     ensures refusal { IfErr result (RefusesLayers (map string_bytes names.now)
-        (shelf_state (S.files shelf.old) (S.faults shelf.old) (S.failed shelf.old) (S.taken shelf.old))
-        (shelf_state (S.files shelf.new) (S.faults shelf.new) (S.failed shelf.new) (S.taken shelf.new))) }
+        (shelf_state (S.files shelf.old) (S.opened shelf.old) (S.faults shelf.old) (S.failed shelf.old) (S.taken shelf.old))
+        (shelf_state (S.files shelf.new) (S.opened shelf.new) (S.faults shelf.new) (S.failed shelf.new) (S.taken shelf.new))) }
     ensures within { ReadsWithin
-        (shelf_state (S.files shelf.old) (S.faults shelf.old) (S.failed shelf.old) (S.taken shelf.old))
-        (shelf_state (S.files shelf.new) (S.faults shelf.new) (S.failed shelf.new) (S.taken shelf.new)) }
+        (shelf_state (S.files shelf.old) (S.opened shelf.old) (S.faults shelf.old) (S.failed shelf.old) (S.taken shelf.old))
+        (shelf_state (S.files shelf.new) (S.opened shelf.new) (S.faults shelf.new) (S.failed shelf.new) (S.taken shelf.new)) }
 {
     let mut layers = Vec::new(alloc);
     for name in names {
@@ -45,13 +45,14 @@ fn read_layers<S: Shelf>(
 fn read_script<S: Shelf>(alloc: Global, shelf: &mut S, name: &str) -> Result<Vec<u8>, Status>
     ensures script { IfOk result (λ bytes. IfSome (S.files shelf.old) (λ files. script_in files name.now ≡ Ok bytes.items)) }
     ensures short { IfOk result (λ bytes. vec_len bytes ≤ byte_limit) }
+    ensures left_open { OnOk result (S.opened shelf.new ≡ Some name.now) }
     ensures kept { OnOk result (S.faults shelf.new ≡ S.faults shelf.old) }
     ensures refusal { IfErr result (RefusesScript name.now
-        (shelf_state (S.files shelf.old) (S.faults shelf.old) (S.failed shelf.old) (S.taken shelf.old))
-        (shelf_state (S.files shelf.new) (S.faults shelf.new) (S.failed shelf.new) (S.taken shelf.new))) }
+        (shelf_state (S.files shelf.old) (S.opened shelf.old) (S.faults shelf.old) (S.failed shelf.old) (S.taken shelf.old))
+        (shelf_state (S.files shelf.new) (S.opened shelf.new) (S.faults shelf.new) (S.failed shelf.new) (S.taken shelf.new))) }
     ensures within { ReadsWithin
-        (shelf_state (S.files shelf.old) (S.faults shelf.old) (S.failed shelf.old) (S.taken shelf.old))
-        (shelf_state (S.files shelf.new) (S.faults shelf.new) (S.failed shelf.new) (S.taken shelf.new)) }
+        (shelf_state (S.files shelf.old) (S.opened shelf.old) (S.faults shelf.old) (S.failed shelf.old) (S.taken shelf.old))
+        (shelf_state (S.files shelf.new) (S.opened shelf.new) (S.faults shelf.new) (S.failed shelf.new) (S.taken shelf.new)) }
 {
     let Ok(file) = name_of(alloc, name) else {
         return Err(Status::NoMemory);
@@ -77,13 +78,14 @@ pub fn read_inputs<S: Shelf>(
     ensures taken { OnOk result (length layers.now ≤ 8) }
     ensures formed { IfOk result (λ read. All (λ layer. IsTrue (is_layer layer)) read.0.items) }
     ensures short { IfOk result (λ read. vec_len read.1 ≤ byte_limit) }
+    ensures left_open { OnOk result (S.opened shelf.new ≡ Some script.now) }
     ensures kept { OnOk result (S.faults shelf.new ≡ S.faults shelf.old) }
     ensures refusal { IfErr result (RefusesFiles (step (map string_bytes layers.now) script.now)
-        (shelf_state (S.files shelf.old) (S.faults shelf.old) (S.failed shelf.old) (S.taken shelf.old))
-        (shelf_state (S.files shelf.new) (S.faults shelf.new) (S.failed shelf.new) (S.taken shelf.new))) }
+        (shelf_state (S.files shelf.old) (S.opened shelf.old) (S.faults shelf.old) (S.failed shelf.old) (S.taken shelf.old))
+        (shelf_state (S.files shelf.new) (S.opened shelf.new) (S.faults shelf.new) (S.failed shelf.new) (S.taken shelf.new))) }
     ensures within { ReadsWithin
-        (shelf_state (S.files shelf.old) (S.faults shelf.old) (S.failed shelf.old) (S.taken shelf.old))
-        (shelf_state (S.files shelf.new) (S.faults shelf.new) (S.failed shelf.new) (S.taken shelf.new)) }
+        (shelf_state (S.files shelf.old) (S.opened shelf.old) (S.faults shelf.old) (S.failed shelf.old) (S.taken shelf.old))
+        (shelf_state (S.files shelf.new) (S.opened shelf.new) (S.faults shelf.new) (S.failed shelf.new) (S.taken shelf.new)) }
 {
     if layers.len() as u64 > Which::Layers.number() {
         return Err(Status::Limit {

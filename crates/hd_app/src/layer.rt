@@ -65,11 +65,11 @@ pub fn read_layer<S: Shelf>(alloc: Global, shelf: &mut S, name: &str) -> Result<
     ensures formed { IfOk result (λ layer. IsTrue (is_layer layer)) }
     ensures kept { OnOk result (S.faults shelf.new ≡ S.faults shelf.old) }
     ensures refusal { IfErr result (RefusesLayer name.now
-        (shelf_state (S.files shelf.old) (S.faults shelf.old) (S.failed shelf.old) (S.taken shelf.old))
-        (shelf_state (S.files shelf.new) (S.faults shelf.new) (S.failed shelf.new) (S.taken shelf.new))) }
+        (shelf_state (S.files shelf.old) (S.opened shelf.old) (S.faults shelf.old) (S.failed shelf.old) (S.taken shelf.old))
+        (shelf_state (S.files shelf.new) (S.opened shelf.new) (S.faults shelf.new) (S.failed shelf.new) (S.taken shelf.new))) }
     ensures within { ReadsWithin
-        (shelf_state (S.files shelf.old) (S.faults shelf.old) (S.failed shelf.old) (S.taken shelf.old))
-        (shelf_state (S.files shelf.new) (S.faults shelf.new) (S.failed shelf.new) (S.taken shelf.new)) }
+        (shelf_state (S.files shelf.old) (S.opened shelf.old) (S.faults shelf.old) (S.failed shelf.old) (S.taken shelf.old))
+        (shelf_state (S.files shelf.new) (S.opened shelf.new) (S.faults shelf.new) (S.failed shelf.new) (S.taken shelf.new)) }
 {
     let Ok(file) = name_of(alloc, name) else {
         return Err(Status::NoMemory);

@@ -1,6 +1,6 @@
 //! Files, read whole.
 
-ghost use Rattle.std.specs.Prelude.{◌≡◌, ◌+◌, ◌≤◌, max, IfOk, IsErrOf, IsSome, IfSome, Some, vec_len};
+ghost use Rattle.std.specs.Prelude.{◌≡◌, ◌+◌, ◌≤◌, max, IfOk, OnOk, IsErrOf, IsSome, IfSome, Some, vec_len};
 ghost use Rattle.hd_io.specs.Causes.{Rose};
 ghost use Rattle.hd_io.specs.Files.{open_bytes};
 ghost use Rattle.hd_app.specs.declared.reading.ReadStop.TheVariants.{NoMemory};
@@ -47,6 +47,8 @@ impl From<AllocError> for ReadStop {
 
 /// Reads a file whole, in pieces, and gives up once it has taken one byte more than the limit.
 pub fn read_file<S: Shelf>(alloc: Global, shelf: &mut S, name: &str) -> Result<Vec<u8>, ReadStop>
+    ensures opened { OnOk result (S.opened shelf.new ≡ Some name.now) }
+    ensures passed_by { IsErrOf result ReadStop.TooLong → S.opened shelf.new ≡ Some name.now }
     ensures whole { IfOk result (λ bytes. Holds (S.files shelf.old) name.now bytes.items) }
     ensures short { IfOk result (λ bytes. vec_len bytes ≤ byte_limit) }
     ensures too_long { IsErrOf result ReadStop.TooLong → HoldsTooMuch (S.files shelf.old) name.now }
@@ -70,6 +72,7 @@ fn read_open<S: Shelf>(alloc: Global, shelf: &mut S) -> Result<Vec<u8>, ReadStop
     ensures short { IfOk result (λ bytes. vec_len bytes ≤ byte_limit) }
     ensures too_long { IsErrOf result ReadStop.TooLong → HoldsOpenTooMuch (S.files shelf.old) (S.opened shelf.old) }
     ensures passed { IsErrOf result ReadStop.TooLong → S.taken shelf.new ≡ byte_limit + 1 }
+    ensures opened { S.opened shelf.new ≡ S.opened shelf.old }
     ensures taken { S.taken shelf.new ≤ byte_limit + 1 }
     ensures files { S.files shelf.new ≡ S.files shelf.old }
     ensures failed { IsErrOf result ReadStop.Failed → Rose (S.faults shelf.old) (S.faults shelf.new) }

@@ -29,13 +29,13 @@ fn draw<S: Shelf, R: Rack, O: Sink>(
     out: &mut O,
 ) -> Status
     ensures runs { Runs (Some (draw layer.now name.now))
-        (shelf_state (S.files shelf.old) (S.faults shelf.old) (S.failed shelf.old) (S.taken shelf.old))
-        (shelf_state (S.files shelf.new) (S.faults shelf.new) (S.failed shelf.new) (S.taken shelf.new))
+        (shelf_state (S.files shelf.old) (S.opened shelf.old) (S.faults shelf.old) (S.failed shelf.old) (S.taken shelf.old))
+        (shelf_state (S.files shelf.new) (S.opened shelf.new) (S.faults shelf.new) (S.failed shelf.new) (S.taken shelf.new))
         (outside (R.held rack.old) (R.faults rack.old) (O.held out.old) (O.faults out.old))
         (outside (R.held rack.new) (R.faults rack.new) (O.held out.new) (O.faults out.new)) result }
     ensures within { ReadsWithin
-        (shelf_state (S.files shelf.old) (S.faults shelf.old) (S.failed shelf.old) (S.taken shelf.old))
-        (shelf_state (S.files shelf.new) (S.faults shelf.new) (S.failed shelf.new) (S.taken shelf.new)) }
+        (shelf_state (S.files shelf.old) (S.opened shelf.old) (S.faults shelf.old) (S.failed shelf.old) (S.taken shelf.old))
+        (shelf_state (S.files shelf.new) (S.opened shelf.new) (S.faults shelf.new) (S.failed shelf.new) (S.taken shelf.new)) }
     ensures closed { result ≡ Status.Done → R.is_open rack.new ≡ false }
 {
     match read_layer(alloc, shelf, layer) {
@@ -55,13 +55,13 @@ fn step<S: Shelf, R: Rack, O: Sink>(
 ) -> Status
     requires { 1 ≤ length layers.now }
     ensures runs { Runs (Some (step (map string_bytes layers.now) script.now))
-        (shelf_state (S.files shelf.old) (S.faults shelf.old) (S.failed shelf.old) (S.taken shelf.old))
-        (shelf_state (S.files shelf.new) (S.faults shelf.new) (S.failed shelf.new) (S.taken shelf.new))
+        (shelf_state (S.files shelf.old) (S.opened shelf.old) (S.faults shelf.old) (S.failed shelf.old) (S.taken shelf.old))
+        (shelf_state (S.files shelf.new) (S.opened shelf.new) (S.faults shelf.new) (S.failed shelf.new) (S.taken shelf.new))
         (outside (R.held rack.old) (R.faults rack.old) (O.held out.old) (O.faults out.old))
         (outside (R.held rack.new) (R.faults rack.new) (O.held out.new) (O.faults out.new)) result }
     ensures within { ReadsWithin
-        (shelf_state (S.files shelf.old) (S.faults shelf.old) (S.failed shelf.old) (S.taken shelf.old))
-        (shelf_state (S.files shelf.new) (S.faults shelf.new) (S.failed shelf.new) (S.taken shelf.new)) }
+        (shelf_state (S.files shelf.old) (S.opened shelf.old) (S.faults shelf.old) (S.failed shelf.old) (S.taken shelf.old))
+        (shelf_state (S.files shelf.new) (S.opened shelf.new) (S.faults shelf.new) (S.failed shelf.new) (S.taken shelf.new)) }
     ensures open { R.is_open rack.new ≡ R.is_open rack.old }
 {
     match read_inputs(alloc, shelf, layers, script) {
@@ -79,13 +79,13 @@ fn run<S: Shelf, R: Rack, O: Sink>(
     out: &mut O,
 ) -> Status
     ensures runs { Runs (command (map string_bytes words.now))
-        (shelf_state (S.files shelf.old) (S.faults shelf.old) (S.failed shelf.old) (S.taken shelf.old))
-        (shelf_state (S.files shelf.new) (S.faults shelf.new) (S.failed shelf.new) (S.taken shelf.new))
+        (shelf_state (S.files shelf.old) (S.opened shelf.old) (S.faults shelf.old) (S.failed shelf.old) (S.taken shelf.old))
+        (shelf_state (S.files shelf.new) (S.opened shelf.new) (S.faults shelf.new) (S.failed shelf.new) (S.taken shelf.new))
         (outside (R.held rack.old) (R.faults rack.old) (O.held out.old) (O.faults out.old))
         (outside (R.held rack.new) (R.faults rack.new) (O.held out.new) (O.faults out.new)) result }
     ensures within { ReadsWithin
-        (shelf_state (S.files shelf.old) (S.faults shelf.old) (S.failed shelf.old) (S.taken shelf.old))
-        (shelf_state (S.files shelf.new) (S.faults shelf.new) (S.failed shelf.new) (S.taken shelf.new)) }
+        (shelf_state (S.files shelf.old) (S.opened shelf.old) (S.faults shelf.old) (S.failed shelf.old) (S.taken shelf.old))
+        (shelf_state (S.files shelf.new) (S.opened shelf.new) (S.faults shelf.new) (S.failed shelf.new) (S.taken shelf.new)) }
     ensures open { result ≡ Status.Done → LeavesOpen (command (map string_bytes words.now)) (R.is_open rack.old) (R.is_open rack.new) }
 {
     match command(words) {
@@ -128,7 +128,7 @@ pub fn top_plain<S: Shelf, R: Rack, O: Sink>(
 
     // What each answer says of itself, whether or not the files are told.
     ensures answer { IsAnswerTo (command (map string_bytes words.now))
-        (shelf_state (S.files shelf.new) (S.faults shelf.new) (S.failed shelf.new) (S.taken shelf.new)) result }
+        (shelf_state (S.files shelf.new) (S.opened shelf.new) (S.faults shelf.new) (S.failed shelf.new) (S.taken shelf.new)) result }
 
     ensures read_fault { IsReadFault result → Rose (S.faults shelf.old) (S.faults shelf.new) }
     ensures read_fault_line { IsReadFault result → Wrote (refused result).acts
@@ -140,8 +140,8 @@ pub fn top_plain<S: Shelf, R: Rack, O: Sink>(
     ensures write_fault { result ≡ Status.WriteFault
         → Rose (R.faults rack.old) (R.faults rack.new) ⊎ Rose (O.faults out.old) (O.faults out.new) }
     ensures cut { IsBrokenOff result → IfSome (S.files shelf.old) (λ files. BrokeOff (command (map string_bytes words.now)) files
-        (shelf_state (S.files shelf.old) (S.faults shelf.old) (S.failed shelf.old) (S.taken shelf.old))
-        (shelf_state (S.files shelf.new) (S.faults shelf.new) (S.failed shelf.new) (S.taken shelf.new))
+        (shelf_state (S.files shelf.old) (S.opened shelf.old) (S.faults shelf.old) (S.failed shelf.old) (S.taken shelf.old))
+        (shelf_state (S.files shelf.new) (S.opened shelf.new) (S.faults shelf.new) (S.failed shelf.new) (S.taken shelf.new))
         (outside (R.held rack.old) (R.faults rack.old) (O.held out.old) (O.faults out.old))
         (outside (R.held rack.new) (R.faults rack.new) (O.held out.new) (O.faults out.new))) }
 

@@ -4,5 +4,5 @@ use Rattle.hydra.proofs.run.Goals as goal
 
 pub returns : goal.returns
 returns c = record {
-  answer = (shelf_state None c.top_plain.new.shelf.faults c.top_plain.new.shelf.failed c.top_plain.new.shelf.taken, c.top_plain.ensures.answer);
+  answer = (shelf_state None c.top_plain.new.shelf.opened c.top_plain.new.shelf.faults c.top_plain.new.shelf.failed c.top_plain.new.shelf.taken, c.top_plain.ensures.answer);
 }

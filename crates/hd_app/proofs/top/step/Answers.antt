@@ -9,7 +9,7 @@ pub returns-in-Ok-clause-runs : goal.returns-in-Ok-clause-runs
 returns-in-Ok-clause-runs g c =
     let few : length (map string_bytes c.args.layers.now) ≤ 8 = rw (length-map c.args.layers.now string_bytes) c.in-Ok.ensures.taken in
     stepped_runs (map string_bytes c.args.layers.now) c.args.script.now c.in-Ok.layers.items c.deref.result.now _ _ _ _ _ few
-    (rw c.deref.ensures.value c.in-Ok.ensures.told) c.in-Ok.ensures.kept c.run_over.ensures.ends
+    (rw c.deref.ensures.value c.in-Ok.ensures.told) c.in-Ok.ensures.kept c.in-Ok.ensures.left_open c.run_over.ensures.ends
 
 pub returns-in-Err-clause-runs : goal.returns-in-Err-clause-runs
 returns-in-Err-clause-runs g c =
