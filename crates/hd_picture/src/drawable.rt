@@ -13,8 +13,8 @@ const CORNER_BOUND: i64 = 1 << 24;
 /// The greatest width and height.
 const FRAME_LIMIT: u32 = 1024;
 
-/// Whether `pixel` can draw this: the frame's size is in its limits, and the eye and all corners
-/// are near enough.
+/// Whether `pixel` and `tile` can draw this: the frame's size is in its limits, and the eye and
+/// all corners are near enough.
 pub fn is_drawable(draws: &Draws) -> bool
     ensures { IsTrue result ↔ IsDrawable draws.now }
 {
