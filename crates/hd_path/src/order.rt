@@ -73,7 +73,7 @@ impl fmt::Debug for Token {
     }
 }
 
-// The texts are compared, which gives the order name by name.
+// The texts of two paths are compared, which gives the order name by name: a slash comes before each byte of a name.
 
 impl PartialEq for Path {
     ghost eq = { pointwise (pointwise nat_eq) };
@@ -82,6 +82,8 @@ impl PartialEq for Path {
 
     #[tactic(auto, using(crate::proofs::Orders::text_orders))]
     fn eq(&self, other: &Path) -> bool {
+        self.is_path();
+        other.is_path();
         self.as_text() == other.as_text()
     }
 }
@@ -111,6 +113,8 @@ impl Ord for Path {
 
     #[tactic(auto, using(crate::proofs::Orders::text_orders))]
     fn cmp(&self, other: &Path) -> Ordering {
+        self.is_path();
+        other.is_path();
         self.as_text().cmp(other.as_text())
     }
 }

@@ -135,8 +135,7 @@ impl Path {
 
     /// The text of the path: `/` for the root, and else each name behind a slash.
     pub fn as_text(&self) -> &str
-        ensures text { result.now ≡ path_text self.now }
-        ensures path { IsPath self.now }
+        ensures { result.now ≡ path_text self.now }
     {
         let text = self.slashed();
         if text.is_empty() { "/" } else { text }

@@ -16,6 +16,12 @@ use hd_path::{Path, PathFault, Token, identifier_len, is_word};
 use hd_usda::{LayerFault, LayerWhy, Property, Which, is_joined, read_property};
 use std::alloc::Global;
 
+/// The most digits of a number.
+const MAX_DIGITS: usize = 9;
+
+/// The most bytes of the name of a file.
+const MAX_FILE_NAME_LEN: usize = 64;
+
 fn are_digits(text: &[u8]) -> bool
     ensures { result ≡ list_all is_digit text.now }
 {
@@ -25,7 +31,7 @@ fn are_digits(text: &[u8]) -> bool
 fn is_number(text: &str) -> bool
     ensures { result ≡ is_number text.now }
 {
-    text.len() >= 1 && text.len() <= 9 && are_digits(text.as_bytes())
+    text.len() >= 1 && text.len() <= MAX_DIGITS && are_digits(text.as_bytes())
 }
 
 /// The number of one to nine digits.
@@ -88,7 +94,7 @@ fn begins_point(text: &[u8]) -> bool
 fn is_file_name(text: &[u8]) -> bool
     ensures { result ≡ is_file_name text.now }
 {
-    text.len() >= 1 && text.len() <= 64 && are_name_bytes(text) && !begins_point(text)
+    text.len() >= 1 && text.len() <= MAX_FILE_NAME_LEN && are_name_bytes(text) && !begins_point(text)
 }
 
 /// The name of a file.

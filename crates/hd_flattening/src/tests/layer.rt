@@ -55,7 +55,7 @@ impl Prims {
         ensures closed { IsClosed self.new }
         ensures shaped { IsShapedBy is_instanced self.new }
     {
-        let _ = path.as_text();
+        path.is_path();
         if path.depth() == 0 || !self.has_parent(alloc, path)? {
             return Ok(());
         }

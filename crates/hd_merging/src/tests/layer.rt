@@ -50,7 +50,7 @@ impl Prims {
         requires { IsClosed self.old }
         ensures { IsClosed self.new }
     {
-        let _ = path.as_text();
+        path.is_path();
         if path.depth() == 0 || !self.has_parent(alloc, path)? {
             return Ok(());
         }

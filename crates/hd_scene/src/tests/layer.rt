@@ -51,7 +51,7 @@ impl Layer {
         requires { IsClosed self.old }
         ensures { IsClosed self.new }
     {
-        let _ = path.as_text();
+        path.is_path();
         if path.depth() == 0 || !self.has_parent(alloc, path)? {
             return Ok(());
         }

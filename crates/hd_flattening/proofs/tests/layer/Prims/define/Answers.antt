@@ -12,7 +12,7 @@ returns-clause-closed c =
     let at : List (List ℕ) = c.args.path.now in
     let below_root : at ≢ [] = λ e. c.if-depth-eq0.false (c.depth.ensures.names ∙ ap length e) in
     let changed = c.in_ok-put.ensures.ok ∙ ap (λ (s : Scene). insert s c.in_ok-copy.field-0 c.args.entry) c.self.view_is ∙ ap (λ (p : List (List ℕ)). insert scene p c.args.entry) c.in_ok-copy.ensures in
-    subst IsClosed (sym changed) (insert_closed scene at c.args.entry c.requires.closed below_root c.as_text.ensures.path (c.in_ok-has_parent.ensures cc))
+    subst IsClosed (sym changed) (insert_closed scene at c.args.entry c.requires.closed below_root c.is_path.ensures (c.in_ok-has_parent.ensures cc))
 
 pub returns-clause-shaped : goal.returns-clause-shaped
 returns-clause-shaped c =
