@@ -6,7 +6,7 @@ use Rattle.hd_picture.specs.Pixels.{picture}
 use Rattle.hd_picture.specs.Ppm.{ppm}
 use Rattle.hd_usda.specs.declared.spec.LayerSpec.{LayerSpec}
 use Rattle.hd_io.specs.Acts.{file, line, Outside, WroteCut, WriteCause}
-use Rattle.hd_app.specs.Endings.{Ends, status_of_write}
+use Rattle.hd_app.specs.Stages.{Ends, status_of_write}
 use Rattle.hd_app.specs.Outcomes.{drawn, root_frame, frame_line}
 use Rattle.hd_app.specs.Refusing.{Outcome}
 use Rattle.hd_io.proofs.Cuts.{none_written}

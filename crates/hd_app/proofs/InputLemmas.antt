@@ -19,10 +19,10 @@ use Rattle.hd_app.specs.declared.status.Status.TheVariants.{Done, Usage, Layer, 
 use Rattle.hd_app.specs.declared.status.Place.{Place}
 use Rattle.hd_app.specs.declared.status.Place.TheVariants.{Words, File, Line}
 use Rattle.hd_app.specs.Commands.{draw, step, HasFewLayers}
-use Rattle.hd_app.specs.Outcomes.{outcome_of, drawn_if_read, layer_in, layers_in, with_layer, script_in, stepped, stepped_if_read}
-use Rattle.hd_app.specs.Reading.{byte_limit}
+use Rattle.hd_app.specs.Outcomes.{outcome_of, drawn_if_read, layer_in, layers_in, with_layer, script_in, stepped, stepped_if_read, byte_limit}
 use Rattle.hd_app.specs.Refusing.{refused}
-use Rattle.hd_app.specs.Runs.{ShelfState, FailedAt, TookTooMuch, PassesLimit, SpellLayers, IsReached, RefusesLayer, RefusesLayers, RefusesScript, RefusesFiles}
+use Rattle.hd_app.specs.Runs.{ShelfState, TookTooMuch, PassesLimit, SpellLayers, IsReached}
+use Rattle.hd_app.specs.Refusals.{FailedAt, RefusesLayer, RefusesLayers, RefusesScript, RefusesFiles}
 use Rattle.hd_app.specs.Scripts.{lines_of, outcome_of_lines}
 
 -- layers that were read, and what is to be read behind them

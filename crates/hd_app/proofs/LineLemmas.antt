@@ -16,7 +16,8 @@ use Rattle.hd_session.specs.States.{State}
 use Rattle.hd_session.specs.Steps as session
 use Rattle.hd_app.specs.declared.status.Status.{Status}
 use Rattle.hd_app.specs.declared.status.Status.TheVariants.{Done, Usage, Layer, Script, Limit, ReadFault, WriteFault, NoMemory}
-use Rattle.hd_app.specs.Endings.{Ends, IsBrokenOff}
+use Rattle.hd_app.specs.Stages.{Ends}
+use Rattle.hd_app.specs.Endings.{IsBrokenOff}
 use Rattle.hd_app.specs.Lines.{RefusesLine, lines_left}
 use Rattle.hd_app.specs.Refusing.{Outcome, refused}
 use Rattle.hd_app.specs.Scripts.{LineStep, line_refusal, command_refusal, line_step, step_of_line, preceded, continued, ended, lines_of, outcome_of_lines}

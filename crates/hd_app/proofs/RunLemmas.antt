@@ -9,10 +9,12 @@ use Rattle.hd_app.specs.declared.status.Status.{Status}
 use Rattle.hd_app.specs.declared.status.Status.TheVariants.{Done, Usage, Layer, Script, Limit, ReadFault, WriteFault, NoMemory}
 use Rattle.hd_io.specs.Acts.{Act, line, Cut, Outside, Adds, WroteCut}
 use Rattle.hd_app.specs.Commands.{Program, draw}
-use Rattle.hd_app.specs.Endings.{Ends, IsReadFault}
+use Rattle.hd_app.specs.Stages.{Ends, Runs}
+use Rattle.hd_app.specs.Endings.{IsReadFault}
 use Rattle.hd_app.specs.Outcomes.{outcome_of, drawn, drawn_if_read, layer_in}
 use Rattle.hd_app.specs.Refusing.{Outcome, refused}
-use Rattle.hd_app.specs.Runs.{ShelfState, RefusesFiles, IsAnswerTo, Runs}
+use Rattle.hd_app.specs.Runs.{ShelfState, IsAnswerTo}
+use Rattle.hd_app.specs.Refusals.{RefusesFiles}
 use Rattle.hd_io.proofs.Cuts.{cut_nothing}
 use Rattle.hd_app.proofs.InputLemmas.{draws_one}
 

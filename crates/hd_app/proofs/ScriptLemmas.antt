@@ -23,10 +23,11 @@ use Rattle.hd_app.specs.declared.status.Status.TheVariants.{Done, Usage, Layer, 
 use Rattle.hd_app.specs.declared.status.Place.TheVariants.{Words, File, Line}
 use Rattle.hd_app.specs.Commands.{Program, draw, step, draw_of, step_of}
 use Rattle.hd_app.specs.Commands as program
-use Rattle.hd_app.specs.Endings.{Ends, IsReadFault}
+use Rattle.hd_app.specs.Stages.{Ends, Runs}
+use Rattle.hd_app.specs.Endings.{IsReadFault}
 use Rattle.hd_app.specs.Outcomes.{stepped}
 use Rattle.hd_app.specs.Refusing.{Outcome}
-use Rattle.hd_app.specs.Runs.{ShelfState, IsOpen, IsAnswerTo, Runs}
+use Rattle.hd_app.specs.Runs.{ShelfState, IsOpen, IsAnswerTo}
 use Rattle.hd_app.specs.Scripts.{LineStep, line_refusal, line_step, step_of_line, continued, lines_of, outcome_of_lines}
 use Rattle.hd_app.proofs.RunLemmas.{ran_runs}
 

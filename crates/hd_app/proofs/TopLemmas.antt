@@ -7,10 +7,11 @@ use Rattle.hd_app.specs.declared.status.Status.{Status}
 use Rattle.hd_app.specs.declared.status.Status.TheVariants.{ReadFault, WriteFault, NoMemory}
 use Rattle.hd_io.specs.Acts.{Outside, Wrote, WroteCut, NoFault}
 use Rattle.hd_app.specs.Commands.{Program}
-use Rattle.hd_app.specs.Endings.{Ends, IsReadFault}
+use Rattle.hd_app.specs.Stages.{Ends, Runs}
+use Rattle.hd_app.specs.Endings.{IsReadFault}
 use Rattle.hd_app.specs.Outcomes.{outcome_of}
 use Rattle.hd_app.specs.Refusing.{Outcome, refused}
-use Rattle.hd_app.specs.Runs.{ShelfState, Runs, BrokeOff}
+use Rattle.hd_app.specs.Runs.{ShelfState, BrokeOff}
 use Rattle.hd_app.proofs.ActLemmas.{wrote_cut}
 use Rattle.hd_app.proofs.RunLemmas.{ends_in_fault}
 

@@ -16,8 +16,7 @@ use Rattle.hd_app.specs.declared.status.Place.TheVariants.{Words, File}
 use Rattle.hd_app.specs.Commands.{Program, draw, step, command}
 use Rattle.hd_app.specs.Endings.{IsBrokenOff}
 use Rattle.hd_app.specs.Laws.{OutcomesEndWhole}
-use Rattle.hd_app.specs.Outcomes.{refusal_at, layer_spelled, layer_of_file, layer_in, drawn_if_read, with_layer, layers_in, script_of_file, script_in, stepped_if_read, outcome_of}
-use Rattle.hd_app.specs.Reading.{byte_limit}
+use Rattle.hd_app.specs.Outcomes.{refusal_at, layer_spelled, layer_of_file, layer_in, drawn_if_read, with_layer, layers_in, script_of_file, script_in, stepped_if_read, outcome_of, byte_limit}
 use Rattle.hd_app.specs.Refusing.{Outcome, refused}
 use Rattle.hd_app.specs.Scripts.{lines_of, outcome_of_lines}
 use Rattle.hd_app.proofs.ScriptLemmas.{EndsScript, script_ends}

@@ -1,38 +1,15 @@
--- How a run ends: as it was to, or broken off.
-use Rattle.std.specs.Prelude.{◌≡◌, ◌⊎◌}
-use Rattle.hd_io.specs.declared.fault.OutsideFault.{OutsideFault}
-use Rattle.hd_io.specs.declared.fault.OutsideFault.TheVariants as faults
-use Rattle.hd_io.specs.Acts.{Outside, Wrote, WroteCut, NoFault}
-use Rattle.hd_io.specs.Causes.{Rose}
+-- How a run ends.
+use Rattle.std.specs.Prelude.{◌≡◌}
+use Rattle.hd_io.specs.Acts.{Outside, Wrote, NoFault}
 use Rattle.hd_app.specs.declared.status.Status.{Status}
 use Rattle.hd_app.specs.declared.status.Status.TheVariants.{Done, Usage, Layer, Script, Limit, ReadFault, WriteFault, NoMemory}
 use Rattle.hd_app.specs.Refusing.{Outcome}
-
--- how a run ends whose write was broken off
-abbrev pub status_of_write : OutsideFault → Status
-status_of_write faults.Failed = WriteFault
-status_of_write faults.NoMemory = NoMemory
 
 -- the outcome's acts were made whole, and its ending is the status
 pub record EndsWhole (outcome : Outcome) (before now : Outside) (status : Status) : Type 0 where
   pub ending : status ≡ outcome.ending
   pub written : Wrote outcome.acts before now
   pub faults : NoFault before now
-
--- a write failed
-pub record BreaksOff (outcome : Outcome) (before now : Outside) (status : Status) : Type 0 where
-  pub ending : status ≡ WriteFault
-  pub written : WroteCut outcome.acts before now
-  pub faults : Rose before.rack_faults now.rack_faults ⊎ Rose before.sink_faults now.sink_faults
-
--- memory ran out
-pub record RunsOut (outcome : Outcome) (before now : Outside) (status : Status) : Type 0 where
-  pub ending : status ≡ NoMemory
-  pub written : WroteCut outcome.acts before now
-  pub faults : NoFault before now
-
-abbrev pub Ends : Outcome → (before now : Outside) → Status → Type 0
-Ends outcome before now status = EndsWhole outcome before now status ⊎ (BreaksOff outcome before now status ⊎ RunsOut outcome before now status)
 
 -- the endings that the words and the files decide
 abbrev pub IsDecided : Status → Type 0

@@ -8,7 +8,9 @@ pub mod Laws
 pub mod Lines
 pub mod Outcomes
 pub mod Reading
+pub mod Refusals
 pub mod Refusing
 pub mod RootDraws
 pub mod Runs
 pub mod Scripts
+pub mod Stages

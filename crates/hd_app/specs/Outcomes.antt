@@ -18,7 +18,6 @@ use Rattle.hd_app.specs.declared.status.Status.{Status}
 use Rattle.hd_app.specs.declared.status.Status.TheVariants.{Done, Usage, Layer, Limit, ReadFault}
 use Rattle.hd_app.specs.declared.status.Place.TheVariants.{Words, File, Line}
 use Rattle.hd_app.specs.Commands.{Program, draw, step, command}
-use Rattle.hd_app.specs.Reading.{byte_limit}
 use Rattle.hd_app.specs.Refusing.{Outcome, refused}
 use Rattle.hd_app.specs.RootDraws.{root_draws}
 use Rattle.hd_app.specs.Scripts.{lines_of, outcome_of_lines}
@@ -45,6 +44,10 @@ drawn out layer = record {
 abbrev pub refusal_at : (name : List ℕ) (number : ℕ) → LayerWhy → Status
 refusal_at name number (why.Limit which) = Limit (Line name number) which (limit_of which)
 refusal_at name number cause = Layer name number cause
+
+-- the most bytes that a layer or the script may have
+abbrev pub byte_limit : ℕ
+byte_limit = limit_of Bytes
 
 -- the layer that a file's bytes spell, or the refusal of their first fault
 abbrev pub layer_spelled : List ℕ → Result LayerSpec Fault → Result LayerSpec Status

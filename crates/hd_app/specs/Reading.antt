@@ -1,16 +1,11 @@
 -- What reading a file whole says of the shelf.
 use Rattle.std.specs.Prelude.{◌≡◌, ◌<◌, ℕ, List, length, Option, IfSome, IsSomeAnd, Some, Result, Ok, Err}
-use Rattle.hd_usda.specs.declared.limits.Which.TheVariants.{Bytes}
-use Rattle.hd_usda.specs.Limits.{limit_of}
 use Rattle.hd_app.specs.declared.reading.ReadStop.{ReadStop}
 use Rattle.hd_app.specs.declared.reading.ReadStop.TheVariants.{Failed, TooLong, NoMemory}
 use Rattle.hd_io.specs.declared.fault.OutsideFault.{OutsideFault}
 use Rattle.hd_io.specs.declared.fault.OutsideFault.TheVariants as faults
 use Rattle.hd_io.specs.Files.{FileMap, open_bytes}
-
--- the most bytes that a layer or the script may have
-abbrev pub byte_limit : ℕ
-byte_limit = limit_of Bytes
+use Rattle.hd_app.specs.Outcomes.{byte_limit}
 
 -- P, but where the shelf failed
 abbrev pub UnlessFailed : {T : Type 0} → Result T ReadStop → Type 0 → Type 0

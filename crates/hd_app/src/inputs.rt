@@ -4,9 +4,9 @@ ghost use Rattle.std.specs.Prelude.{◌≡◌, ◌≤◌, length, map, string_by
 ghost use Rattle.hd_session.specs.States.{opened};
 ghost use Rattle.hd_usda.specs.WellFormed.{is_layer};
 ghost use Rattle.hd_app.specs.Commands.{step};
-ghost use Rattle.hd_app.specs.Outcomes.{layers_in, script_in, stepped};
-ghost use Rattle.hd_app.specs.Reading.{byte_limit};
-ghost use Rattle.hd_app.specs.Runs.{shelf_state, RefusesLayers, RefusesScript, RefusesFiles, ReadsWithin};
+ghost use Rattle.hd_app.specs.Outcomes.{layers_in, script_in, stepped, byte_limit};
+ghost use Rattle.hd_app.specs.Runs.{shelf_state};
+ghost use Rattle.hd_app.specs.Refusals.{RefusesLayers, RefusesScript, RefusesFiles, ReadsWithin};
 ghost use Rattle.hd_app.specs.Scripts.{lines_of, outcome_of_lines};
 
 use crate::layer::{name_of, read_layer, stopped};

@@ -2,9 +2,9 @@
 
 ghost use Rattle.std.specs.Prelude.{◌≡◌, ◌≤◌, length, IfOk, IfErr, IfSome, IsTrue, OnOk, Ok};
 ghost use Rattle.hd_usda.specs.WellFormed.{is_layer};
-ghost use Rattle.hd_app.specs.Outcomes.{layer_in, layer_of_bytes, refusal_at};
-ghost use Rattle.hd_app.specs.Reading.{byte_limit};
-ghost use Rattle.hd_app.specs.Runs.{shelf_state, status_of_stop, status_of_fault, RefusesBytes, RefusesLayer, ReadsWithin};
+ghost use Rattle.hd_app.specs.Outcomes.{layer_in, layer_of_bytes, refusal_at, byte_limit};
+ghost use Rattle.hd_app.specs.Runs.{shelf_state};
+ghost use Rattle.hd_app.specs.Refusals.{status_of_stop, status_of_fault, RefusesBytes, RefusesLayer, ReadsWithin};
 
 use crate::reading::{ReadStop, read_file};
 use crate::status::{Place, Status};

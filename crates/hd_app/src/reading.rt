@@ -4,7 +4,8 @@ ghost use Rattle.std.specs.Prelude.{◌≡◌, ◌+◌, ◌≤◌, max, IfOk, On
 ghost use Rattle.hd_io.specs.Causes.{Rose};
 ghost use Rattle.hd_io.specs.Files.{open_bytes};
 ghost use Rattle.hd_app.specs.declared.reading.ReadStop.TheVariants.{NoMemory};
-ghost use Rattle.hd_app.specs.Reading.{byte_limit, Holds, HoldsTooMuch, HoldsOpen, HoldsOpenTooMuch, UnlessFailed, StopsAs};
+ghost use Rattle.hd_app.specs.Outcomes.{byte_limit};
+ghost use Rattle.hd_app.specs.Reading.{Holds, HoldsTooMuch, HoldsOpen, HoldsOpenTooMuch, UnlessFailed, StopsAs};
 
 use hd_io::{OutsideFault, Shelf};
 use std::alloc::{AllocError, Global};

@@ -11,9 +11,9 @@ ghost use Rattle.hd_session.specs.States.{opened};
 ghost use Rattle.hd_usda.specs.Limits.{limit_of};
 ghost use Rattle.hd_usda.specs.WellFormed.{is_layer};
 ghost use Rattle.hd_app.specs.declared.status.Place.TheVariants.{Line};
-ghost use Rattle.hd_app.specs.Endings.{Ends};
+ghost use Rattle.hd_app.specs.Stages.{Ends};
 ghost use Rattle.hd_app.specs.Lines.{RefusesLine, lines_left};
-ghost use Rattle.hd_app.specs.Reading.{byte_limit};
+ghost use Rattle.hd_app.specs.Outcomes.{byte_limit};
 ghost use Rattle.hd_app.specs.Scripts.{lines_of, line_refusal, command_refusal, line_step, step_of_line, ended, outcome_of_lines};
 
 use crate::layer::name_of;

@@ -4,11 +4,12 @@ ghost use Rattle.std.specs.Prelude.{◌≡◌, ◌+◌, ◌≤◌, ◌⊎◌, So
 ghost use Rattle.hd_io.specs.Causes.{Rose};
 ghost use Rattle.hd_io.specs.Acts.{outside, Wrote, NoFault};
 ghost use Rattle.hd_app.specs.Endings.{EndsWhole, IsDecided, IsReadFault, IsBrokenOff};
-ghost use Rattle.hd_app.specs.Outcomes.{outcome};
+ghost use Rattle.hd_app.specs.Outcomes.{outcome, byte_limit};
 ghost use Rattle.hd_app.specs.Refusing.{refused};
-ghost use Rattle.hd_app.specs.Reading.{byte_limit};
 ghost use Rattle.hd_app.specs.Commands.{command, draw, step};
-ghost use Rattle.hd_app.specs.Runs.{shelf_state, ReadsWithin, Runs, IsAnswerTo, LeavesOpen, BrokeOff};
+ghost use Rattle.hd_app.specs.Runs.{shelf_state, IsAnswerTo, LeavesOpen, BrokeOff};
+ghost use Rattle.hd_app.specs.Refusals.{ReadsWithin};
+ghost use Rattle.hd_app.specs.Stages.{Runs};
 
 use crate::inputs::read_inputs;
 use crate::layer::read_layer;

@@ -4,7 +4,8 @@ ghost use Rattle.std.specs.Prelude.{◌≡◌, [], ◌∷◌, false, ℕ, Option
 ghost use Rattle.hd_io.specs.Causes.{HasCause};
 ghost use Rattle.hd_io.specs.Files.{FileList};
 ghost use Rattle.hd_io.specs.Acts.{outside, file, line, Wrote, WroteCut, WriteCause, NoFault};
-ghost use Rattle.hd_app.specs.Endings.{Ends, IsBrokenOff, status_of_write};
+ghost use Rattle.hd_app.specs.Stages.{Ends, status_of_write};
+ghost use Rattle.hd_app.specs.Endings.{IsBrokenOff};
 ghost use Rattle.hd_app.specs.FaultLines.{fault_line};
 ghost use Rattle.hd_app.specs.Outcomes.{drawn, frame_line};
 ghost use Rattle.hd_app.specs.Refusing.{refused};

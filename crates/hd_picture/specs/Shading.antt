@@ -1,4 +1,4 @@
--- What the code needs and keeps on its way to a pixel.
+-- The box of a triangle, outside of which nothing is covered; and what the code keeps on its way to a pixel.
 use Rattle.std.specs.Prelude.{◌≡◌, ◌^◌, Bool, true, false, Option, Some, None, ℤ, pos, ◌+ℤ◌, ◌-ℤ◌, ◌*ℤ◌, ◌≤ℤ◌, ◌<ℤ◌, int_le, if◌then◌else◌}
 use Rattle.std.specs.Int.{int_max, int_min}
 use Rattle.hd_num.specs.declared.vector.Vec3.{Vec3}

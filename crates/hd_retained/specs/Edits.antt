@@ -17,7 +17,7 @@ use Rattle.hd_retained.specs.declared.fault.EditFault.TheVariants.{NoPrim, PrimT
 use Rattle.hd_retained.specs.Layers.{LayerPrim, Layer, layer_code}
 use Rattle.std.proofs.Common.{refl}
 
--- a layer as an index, which counts its answers
+-- a layer as an index, which counts the calls of `prim`
 pub record State : Type 0 where
   pub layer : Layer
   pub pulls : ℕ

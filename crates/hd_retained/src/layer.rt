@@ -19,7 +19,7 @@ use std::alloc::{AllocError, Global};
 use std::collections::BTreeMap;
 use std::marker::Model;
 
-/// The prims of a layer. For contracts it is the finite map from their paths.
+/// The prims of a layer, which are the origin of a retained index in contracts: the finite map from their paths.
 #[derive(Drop)]
 pub struct Layer {
     prims: BTreeMap<Place, Held>,
@@ -85,7 +85,7 @@ impl Layer {
         let _ = &self.prims;
     }
 
-    /// Each value is one that a text can author: a fact for proofs, which costs nothing.
+    /// Each value has the form of one that a text can author: a fact for proofs, which costs nothing.
     pub(crate) fn is_shaped(&self)
         ensures { IsShapedBy is_authored (scene_of self.now) }
     {

@@ -89,7 +89,7 @@ impl Retained {
         self.layer.is_closed();
     }
 
-    /// Each value of the scene is one that a text can author: a fact for proofs, which costs nothing.
+    /// Each value of the scene has the form of one that a text can author: a fact for proofs, which costs nothing.
     pub fn is_shaped(&self)
         ensures { IsShapedBy is_authored (scene_of self.now.layer) }
     {

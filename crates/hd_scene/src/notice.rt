@@ -9,7 +9,8 @@ use std::alloc::{AllocError, Global};
 /// A change of a scene.
 #[derive(Drop)]
 pub enum Notice {
-    /// At the path there is now a prim of this kind, and nothing is kept of one that was there.
+    /// At the path there is now a prim of this kind. Where there was one, each of its values may have changed; what is
+    /// below it stays.
     Added(Path, Token),
 
     /// The prims at and below the path are gone.

@@ -55,7 +55,7 @@ is_file_name text = nat_le 1 (length text) && nat_le (length text) 64 && list_al
 unfoldable pub file_name : List ℕ → Result (List ℕ) LineFault
 file_name text = if is_file_name text then Ok text else Err Syntax
 
--- what is wrong with a path, of which want of memory is never said
+-- what is wrong with a path, where want of memory, which no text has, counts as syntax
 abbrev pub path_fault : PathFault → LineFault
 path_fault (path.Syntax at) = Syntax
 path_fault path.TooDeep = Limit Depth
@@ -89,7 +89,7 @@ prim_path text = below_root (parsed text)
 unfoldable pub property_name : List ℕ → Result (List ℕ) LineFault
 property_name text = if is_joined text then Ok text else Err Syntax
 
--- what is wrong with a property, of which the last three are never said
+-- what is wrong with a property, where the last three, which only a layer has, count as syntax
 abbrev pub property_fault : LayerWhy → LineFault
 property_fault why.Syntax = Syntax
 property_fault why.LeftOut = LeftOut

@@ -94,7 +94,10 @@ fn begins_point(text: &[u8]) -> bool
 fn is_file_name(text: &[u8]) -> bool
     ensures { result ≡ is_file_name text.now }
 {
-    text.len() >= 1 && text.len() <= MAX_FILE_NAME_LEN && are_name_bytes(text) && !begins_point(text)
+    text.len() >= 1
+        && text.len() <= MAX_FILE_NAME_LEN
+        && are_name_bytes(text)
+        && !begins_point(text)
 }
 
 /// The name of a file.

@@ -118,7 +118,7 @@ impl Session {
     ///
     /// # Errors
     ///
-    /// A fault of the rack or the sink, or want of memory. The session is spent then.
+    /// None yet, since no frame runs.
     pub fn finish<K: Rack, O: Sink>(&mut self, rack: &mut K, out: &mut O) -> Result<(), Refusal>
         requires unspent { self.old.is_spent ≡ false }
         ensures done { OnOk result (Does (finish self.old.state) self.new.state

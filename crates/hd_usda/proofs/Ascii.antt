@@ -7,7 +7,8 @@ use Rattle.std.proofs.lemmas.Str.Ascii.{IsAscii-nil, IsAscii-cons}
 use Rattle.std.specs.List.{list_all, prefix_len, slice_split, onto_first, starts_with}
 use Rattle.hd_path.specs.Names.{is_letter, is_word, is_identifier}
 use Rattle.hd_path.specs.Parsing.{is_slash}
-use Rattle.hd_usda.specs.Names.{is_plain_word, is_no_word, is_colon, is_joined}
+use Rattle.hd_usda.specs.Lexing.{is_no_word}
+use Rattle.hd_usda.specs.Names.{is_plain_word, is_colon, is_joined}
 use Rattle.hd_usda.specs.Metadata.{is_any}
 use Rattle.hd_usda.specs.Properties.{visibilities, purposes, kind_role, first_part, op_role, is_used, is_op_entry}
 use Rattle.hd_usda.specs.Targets.{are_identifiers, is_prim_path}

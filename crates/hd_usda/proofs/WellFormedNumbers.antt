@@ -1,5 +1,6 @@
 -- The numbers, triples and rows that a reader may answer are within their bounds.
 use Rattle.std.proofs.Common.{◌≡◌, ℕ, ◌%◌, Bool, true, false, ◌&&◌, not, ◌==◌, if◌then◌else◌, nat_le, ℤ, unsigned_abs, List, [], ◌∷◌, Some, None, Ok, Err, refl, ap}
+use Rattle.std.specs.List.{list_all}
 use Rattle.std.proofs.lemmas.Bool.{and_from, not-false}
 use Rattle.hd_num.specs.declared.vector.Vec3.{Vec3}
 use Rattle.hd_num.specs.Matrices.{Rows}
@@ -14,7 +15,7 @@ use Rattle.hd_usda.specs.Cursors.{is, rest, text, line_of, fault_in, fault_at}
 use Rattle.hd_usda.specs.Decimals.{Decimal, parts_of, amount, is_fractional, within_limit}
 use Rattle.hd_usda.specs.Numbers.{is_endless, departs, need, meets, limited, known, number, triple, row}
 use Rattle.hd_usda.specs.UsedValues.{rows}
-use Rattle.hd_usda.specs.WellFormed.{is_small, is_quarters, each_of, is_row, are_matrix_rows}
+use Rattle.hd_usda.specs.WellFormed.{is_small, is_quarters, each_of, are_small_rows}
 use Rattle.hd_usda.proofs.Answering.{answered, ok_same, no_answer, past_fault, past_test, Leaves, Whatever, on_then, on_any, on_ok}
 use Rattle.hd_usda.proofs.Turns.{turn_divides}
 
@@ -75,10 +76,10 @@ abbrev Each : (ℤ → Bool) → Vec3 × Tokens → Type 0
 Each test q = each_of test q.0 ≡ true
 
 abbrev IsRow : List ℤ × Tokens → Type 0
-IsRow q = is_row q.0 ≡ true
+IsRow q = list_all is_small q.0 ≡ true
 
 abbrev AreRows : Rows × Tokens → Type 0
-AreRows q = are_matrix_rows q.0 ≡ true
+AreRows q = are_small_rows q.0 ≡ true
 
 -- what each number passes, each component does
 each_reads : (demand : Demand) (test : ℤ → Bool) → ((ts : Tokens) → Leaves (Passes test) (number demand ts)) → (ts : Tokens) → Leaves (Each test) (triple demand ts)
@@ -128,5 +129,5 @@ rows_read ts =
     on_then Whatever AreRows (need true CloseRound o.1) _ (on_any (need true CloseRound o.1)) (λ end _.
     on_ok AreRows (x.0 ∷ y.0 ∷ z.0 ∷ o.0 ∷ [], end) (rw (a, b, c, d) refl))))))))))
 
-pub rows_are : (ts : Tokens) (m : Rows) (u : Tokens) → rows ts ≡ Ok (m, u) → are_matrix_rows m ≡ true
+pub rows_are : (ts : Tokens) (m : Rows) (u : Tokens) → rows ts ≡ Ok (m, u) → are_small_rows m ≡ true
 rows_are ts m u e = rows_read ts (m, u) e

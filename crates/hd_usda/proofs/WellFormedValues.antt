@@ -19,7 +19,7 @@ use Rattle.hd_usda.specs.Properties.{visibilities, purposes, is_op_entry}
 use Rattle.hd_usda.specs.Numbers.{need, number, triple}
 use Rattle.hd_usda.specs.Elements.{list_of}
 use Rattle.hd_usda.specs.UsedValues.{numbers, triples, op_entry, op_entries, one_of, rows, single, whole, value_of, used_value}
-use Rattle.hd_usda.specs.WellFormed.{is_small, is_quarters, each_of, is_list, is_single, are_op_entries, are_matrix_rows, has_form}
+use Rattle.hd_usda.specs.WellFormed.{is_small, is_quarters, each_of, is_list, is_single, are_op_entries, are_small_rows, has_form}
 use Rattle.hd_usda.proofs.Answering.{answered, ok_same, past_fault, past_test}
 use Rattle.hd_usda.proofs.WellFormedNumbers.{needed, number_begins, number_small, number_quarters, triple_begins, triple_each, rows_are}
 use Rattle.hd_usda.proofs.WellFormedLists.{Checks, list_is, are_listed, are_list}
@@ -99,7 +99,7 @@ value_is Purpose = single_is raw.Words (one_of purposes) (is_any purposes) Purpo
 value_is Vector = single_is raw.Triples (triple Any) (each_of is_small) Vector small_triple (λ x h. h)
 value_is Angle = single_is raw.Numbers (number Turn) is_quarters Angle number_quarters (λ x h. h)
 value_is Angles = single_is raw.Triples (triple Turn) (each_of is_quarters) Angles (triple_each Turn is_quarters number_quarters) (λ x h. h)
-value_is Transform = whole_is raw.Matrix rows are_matrix_rows Transform rows_are (λ x h. h)
+value_is Transform = whole_is raw.Matrix rows are_small_rows Transform rows_are (λ x h. h)
 value_is ByteColor = single_is raw.Triples (triple Any) (each_of is_small) ByteColor small_triple (λ x h. h)
 
 pub used_value_is : (role : Role) (ts : Tokens) (v : RawValue) (u : Tokens) → used_value role ts ≡ Ok (v, u) → has_form role v ≡ true

@@ -34,10 +34,11 @@ signed_exponent d = drop 1 d.exponent
 abbrev pub exponent_of : Decimal → ℕ
 exponent_of d = digits_from 0 (drop (sign_len (signed_exponent d)) (signed_exponent d))
 
--- by how many places the point stands to the left, to the right of the end of the digits, without those that end in 0
+-- by how many places the last digit other than 0 stands lower, for the digits behind the point and an exponent below 0
 abbrev pub places_left : Decimal → ℕ
 places_left d = length (behind_point d) + (if begins is_minus (signed_exponent d) then exponent_of d else 0)
 
+-- by how many places it stands higher, for the zeros behind it and an exponent above 0
 abbrev pub places_right : Decimal → ℕ
 places_right d = last_zeros d + (if begins is_minus (signed_exponent d) then 0 else exponent_of d)
 

@@ -138,7 +138,7 @@ pub record Lead : Type 0 where
   pub word : List ℕ
   pub brackets : Bool
 
--- an attribute of this role can't be served
+-- an attribute of this role is left out, for its type or its tail
 abbrev pub misfits : Option Role → Lead → Tail → Bool
 misfits None lead tail = false
 misfits (Some role) lead tail = lead.listed || not (allows role lead.word lead.brackets) || is_samples tail

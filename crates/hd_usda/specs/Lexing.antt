@@ -61,9 +61,13 @@ spelled kind bs n = record { kind = kind; text = take (n + 1) bs; more = n }
 abbrev pub no_piece : Piece
 no_piece = record { kind = Bad; text = []; more = 0 }
 
--- `inf` and `nan` are numbers, and all else that begins with a letter is a word
+-- `inf` and `nan` are numbers and no words
+abbrev pub is_no_word : List ℕ → Bool
+is_no_word text = bytes_eq text (codes "inf") || bytes_eq text (codes "nan")
+
+-- and all else that begins with a letter is a word
 abbrev pub word_kind : List ℕ → Kind
-word_kind text = if bytes_eq text (codes "inf") || bytes_eq text (codes "nan") then Number else Word
+word_kind text = if is_no_word text then Number else Word
 
 -- the word at these bytes, of which n follow the first
 abbrev pub word_piece : List ℕ → ℕ → Piece

@@ -1,18 +1,14 @@
 -- Words, and the names of properties: words that colons join.
-use Rattle.std.specs.Prelude.{ℕ, List, length, Bool, ◌&&◌, ◌||◌, not, ◌==◌, nat_lt, codes}
-use Rattle.std.specs.Str.{bytes_eq}
+use Rattle.std.specs.Prelude.{ℕ, List, length, Bool, ◌&&◌, ◌||◌, not, ◌==◌, nat_lt}
 use Rattle.std.specs.List.{list_all, slice_split}
 use Rattle.hd_path.specs.Names.{is_identifier}
 use Rattle.hd_usda.specs.declared.limits.Which.TheVariants.{Name}
+use Rattle.hd_usda.specs.Lexing.{is_no_word}
 use Rattle.hd_usda.specs.Limits.{limit_of}
 
 -- longer than a name may be
 abbrev pub is_long : List ℕ → Bool
 is_long name = nat_lt (limit_of Name) (length name)
-
--- `inf` and `nan` are numbers and no words
-abbrev pub is_no_word : List ℕ → Bool
-is_no_word text = bytes_eq text (codes "inf") || bytes_eq text (codes "nan")
 
 -- the text is a word
 abbrev pub is_plain_word : List ℕ → Bool

@@ -1,4 +1,4 @@
--- Layers, prims and properties that a reader may answer.
+-- Layers, prims and properties that may be handed on.
 use Rattle.std.specs.Prelude.{ℕ, ◌-◌, ◌%◌, ℤ, unsigned_abs, List, [], ◌∷◌, length, map, take, Bool, true, false, ◌&&◌, ◌||◌, not, ◌==◌, nat_le, nat_lt, Option, Some, None}
 use Rattle.std.specs.List.{list_all, list_any}
 use Rattle.std.specs.Str.{bytes_eq}
@@ -80,13 +80,9 @@ are_rows test (Triples triples) = false
 are_rows test (Words words) = false
 are_rows test (Paths paths) = false
 
--- three numbers of a row, whose last number is known
-abbrev pub is_row : List ℤ → Bool
-is_row row = (length row == 3) && list_all is_small row
-
--- four rows of a matrix
-abbrev pub are_matrix_rows : Rows → Bool
-are_matrix_rows rows = (length rows == 4) && list_all is_row rows
+-- the numbers of each row of a matrix
+abbrev pub are_small_rows : Rows → Bool
+are_small_rows rows = list_all (list_all is_small) rows
 
 -- the value has the form of its role
 abbrev pub has_form : Role → RawValue → Bool
@@ -100,7 +96,7 @@ has_form role.Purpose value = are_words (is_single (is_any purposes)) value
 has_form role.Vector value = are_triples (is_single (each_of is_small)) value
 has_form role.Angle value = are_numbers (is_single is_quarters) value
 has_form role.Angles value = are_triples (is_single (each_of is_quarters)) value
-has_form role.Transform value = are_rows are_matrix_rows value
+has_form role.Transform value = are_rows are_small_rows value
 has_form role.ByteColor value = are_triples (is_single (each_of is_small)) value
 
 -- not the root, which is the path of no prim

@@ -88,7 +88,7 @@ fn is_samples(tail: Tail) -> bool
     }
 }
 
-/// Can an attribute of this role not be served?
+/// Is an attribute of this role left out, for its type or its tail?
 fn misfits(role: Option<Role>, lead: &Lead, tail: Tail) -> bool
     ensures { result ≡ misfits role (lead_view lead.now) tail }
 {

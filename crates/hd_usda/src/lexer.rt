@@ -6,6 +6,7 @@ ghost use Rattle.hd_path.specs.Names.{is_digit};
 ghost use Rattle.hd_usda.specs.Lexing.{is_sign, is_exponent, is_space, is_blank, is_comment, mark_of, spelled, no_piece, word_kind, word_piece, fraction_len, sign_len, exponent_len, mantissa_len, number_len, number_piece, signed_piece, inside_len, on_line, between_three, short_piece, quoted, line_after, line_over, blank_more, tokens_from};
 ghost use Rattle.hd_usda.specs.Scanned.{seen, quoting, front, BeginsToken};
 
+use crate::words::is_no_word;
 use hd_path::{is_letter, word_len};
 
 /// What a token is.
@@ -230,11 +231,10 @@ fn no_piece<'a>() -> Piece<'a>
     }
 }
 
-/// Is a word a number?
 fn word_kind(text: &[u8]) -> Kind
     ensures { result ≡ word_kind text.now }
 {
-    if text == b"inf".as_slice() || text == b"nan".as_slice() {
+    if is_no_word(text) {
         Kind::Number
     } else {
         Kind::Word

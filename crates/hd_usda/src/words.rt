@@ -3,7 +3,8 @@
 ghost use Rattle.std.specs.Prelude.{◌≡◌, ◌≤◌, length};
 ghost use Rattle.std.specs.List.{list_all, prefix_len};
 ghost use Rattle.hd_path.specs.Names.{is_word, is_identifier};
-ghost use Rattle.hd_usda.specs.Names.{is_long, is_no_word, is_plain_word, is_part, is_joined};
+ghost use Rattle.hd_usda.specs.Lexing.{is_no_word};
+ghost use Rattle.hd_usda.specs.Names.{is_long, is_plain_word, is_part, is_joined};
 
 use crate::limits::Which;
 use hd_path::{is_letter, is_word};
@@ -31,7 +32,8 @@ pub fn is_identifier(text: &[u8]) -> bool
     }
 }
 
-fn is_no_word(text: &[u8]) -> bool
+/// Is a word a number?
+pub(crate) fn is_no_word(text: &[u8]) -> bool
     ensures { result ≡ is_no_word text.now }
 {
     text == b"inf".as_slice() || text == b"nan".as_slice()

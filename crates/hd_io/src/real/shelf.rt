@@ -1,6 +1,6 @@
 //! A shelf over the files of the system.
 
-ghost use Rattle.std.specs.Prelude.{◌≡◌, ◌+◌, ◌^◌, ◌<◌, ◌≤◌, length, Option, None, Some, IsSome, IsErr, OnErr, IfOk, string_bytes};
+ghost use Rattle.std.specs.Prelude.{◌≡◌, ◌+◌, ◌^◌, ◌<◌, ◌≤◌, length, Option, None, Some, IsSome, IsErr, OnOk, OnErr, IfOk, string_bytes};
 ghost use Rattle.std.specs.Io.KnownBytes.{ReadConsumes};
 ghost use Rattle.hd_io.specs.Causes.{HasCause};
 ghost use Rattle.hd_io.specs.Failures.{failed_name};
@@ -102,7 +102,17 @@ impl<R: Files> Shelf for FileShelf<R> {
 
     ghost failed = { λ s. s.failed };
 
-    fn open(&mut self, name: &str) -> Result<(), OutsideFault> {
+    fn open(&mut self, name: &str) -> Result<(), OutsideFault>
+        ensures opened { OnOk result (self.new.opened ≡ Some name.now) }
+        ensures begun { OnOk result (self.new.taken ≡ 0) }
+
+        ensures unopened { OnErr result (self.new.opened ≡ self.old.opened) }
+        ensures untaken { OnErr result (self.new.taken ≡ self.old.taken) }
+        ensures left { OnErr result (self.new.left ≡ self.old.left) }
+
+        ensures failed { NamesFailure (Some name.now) self.old.failed self.new.failed result }
+        ensures cause { HasCause self.old.faults self.new.faults result }
+    {
         // The name first, so that want of memory leaves all as it was.
         let name = String::from_str(self.failures.alloc, name)?;
         match fs::open(&self.rt, name.as_str()) {

@@ -123,7 +123,7 @@ fn names_below(
     Ok(names)
 }
 
-/// A layer, which is always in step.
+/// A layer, which is in step where its prims are closed.
 #[derive(Drop)]
 pub struct Layer {
     pub prims: Prims,

@@ -123,7 +123,7 @@ fn names_below(
     Ok(names)
 }
 
-/// A layer as a scene index, which is always in step.
+/// A layer as a scene index, which is in step where its prims are closed.
 #[derive(Drop)]
 pub struct LayerIndex {
     pub layer: Layer,

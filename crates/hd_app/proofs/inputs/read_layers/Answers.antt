@@ -1,7 +1,7 @@
 use Rattle.std.proofs.Common.{map, string_bytes, arith, ◌+◌, ◌∙◌}
 use Rattle.std.proofs.lemmas.Grind.{common_steps}
 use Rattle.std.proofs.lemmas.Result.{err_from_is_err_and}
-use Rattle.hd_app.specs.Reading.{byte_limit}
+use Rattle.hd_app.specs.Outcomes.{byte_limit}
 use Rattle.hd_app.specs.Runs.{shelf_state}
 use Rattle.hd_app.proofs.InputLemmas.{named_at, told_one_more, told_one_more_spells, all_formed, within_joined, refused_among}
 use Rattle.hd_app.proofs.inputs.read_layers.Goals as goal

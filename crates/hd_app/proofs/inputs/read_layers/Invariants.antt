@@ -1,8 +1,7 @@
 use Rattle.std.proofs.Common.{◌≡◌, ◌+◌, ◌≤◌, map, take, drop, string_bytes, vec_len}
 use Rattle.std.specs.Prelude.{All, IfSome, IsTrue, max}
 use Rattle.hd_usda.specs.WellFormed.{is_layer}
-use Rattle.hd_app.specs.Outcomes.{layers_in}
-use Rattle.hd_app.specs.Reading.{byte_limit}
+use Rattle.hd_app.specs.Outcomes.{layers_in, byte_limit}
 use Rattle.hd_app.specs.Runs.{SpellLayers}
 use Rattle.hd_app.proofs.InputLemmas.{behind}
 use Rattle.hd_app.proofs.inputs.read_layers.Given as goal

@@ -1,7 +1,7 @@
 use Rattle.std.proofs.Common.{◌≡◌, ◌+◌, ◌-◌, ◌≤◌, vec_len}
 use Rattle.std.specs.Prelude.{IfSome, IsSomeAnd}
 use Rattle.hd_io.specs.Files.{open_bytes}
-use Rattle.hd_app.specs.Reading.{byte_limit}
+use Rattle.hd_app.specs.Outcomes.{byte_limit}
 use Rattle.hd_app.proofs.Fronts.{IsFront}
 use Rattle.hd_app.proofs.reading.read_open.Given as goal
 

@@ -1,7 +1,7 @@
 use Rattle.std.proofs.Common.{ap, ◌+◌, ◌∙◌, option_copied}
 use Rattle.hd_io.specs.Acts.{outside}
 use Rattle.hd_app.specs.Lines.{lines_left}
-use Rattle.hd_app.specs.Reading.{byte_limit}
+use Rattle.hd_app.specs.Outcomes.{byte_limit}
 use Rattle.hd_app.proofs.LineLemmas.{script_refused, script_leads, script_ended, counted, same_outside}
 use Rattle.hd_app.proofs.script.run_script.Goals as goal
 

@@ -1,7 +1,7 @@
 use Rattle.std.proofs.Common.{◌≡◌, ◌+◌, ◌≤◌, false, option_copied}
 use Rattle.hd_io.specs.Acts.{outside}
 use Rattle.hd_app.specs.Lines.{lines_left}
-use Rattle.hd_app.specs.Reading.{byte_limit}
+use Rattle.hd_app.specs.Outcomes.{byte_limit}
 use Rattle.hd_app.specs.Scripts.{lines_of, outcome_of_lines}
 use Rattle.hd_app.proofs.LineLemmas.{LeadsOn, room}
 use Rattle.hd_app.proofs.script.run_script.Given as goal
