@@ -2,6 +2,12 @@
 
 ghost use Rattle.std.specs.Prelude.{◌≤◌};
 
+mod layers;
+mod pictures;
+mod refusals;
+mod script_lines;
+mod whole_scripts;
+
 use crate::meshes::root_draws;
 use crate::status::{Place, Status};
 use crate::top::top_plain;

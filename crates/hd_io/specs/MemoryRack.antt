@@ -4,7 +4,7 @@ use Rattle.hd_io.specs.Memory.{CallPlan}
 use Rattle.hd_io.specs.Files.{FileList}
 
 -- what a rack in memory holds, and how its calls go
-pub record RackState : Type 0 where
+pub record MemoryRackState : Type 0 where
   pub files : FileList
   pub is_open : Bool
   pub faults : ℕ

@@ -5,7 +5,7 @@ use Rattle.hd_io.specs.Files.{FileList, file_map, bytes_of}
 use Rattle.hd_io.specs.Memory.{CallPlan}
 
 -- what a shelf in memory holds, and how its calls go
-pub record ShelfState : Type 0 where
+pub record MemoryShelfState : Type 0 where
   pub files : FileList
   pub opened : Option (List ℕ)
   pub taken : ℕ

@@ -3,7 +3,7 @@ use Rattle.std.specs.Prelude.{ℕ, List}
 use Rattle.hd_io.specs.Memory.{CallPlan}
 
 -- what a sink in memory holds, and how its calls go
-pub record SinkState : Type 0 where
+pub record MemorySinkState : Type 0 where
   pub bytes : List ℕ
   pub faults : ℕ
   pub calls : CallPlan

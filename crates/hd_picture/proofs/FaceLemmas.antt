@@ -43,12 +43,12 @@ first_weights eye tri seen p q v h e same = e ∙ same_weights eye tri seen p h 
 pub area_read : (w : Weights) → IsSmall w → read (read (read w.a +ℤ read w.b) +ℤ read w.c) ≡ total w
 area_read w h = omega (arith, ints)
 
--- the weights of a scan at a pixel, and its rest, are in reach
+-- the weights of a scan at a pixel, and its remainder, are in reach
 pub scan_in_reach : (eye : Vec3) (tri : WorldTri) (area : ℤ) (w : Window) (x y : ℕ) (at : Scan) → IsPointWithin (2 ^ 30) eye → IsTriWithin (2 ^ 24) tri → IsWindow w → x ≤ 16 → y ≤ 16
     → IsScan eye tri area (spot w x y) at → IsWithin (2 ^ 62) at.depth.whole → IsScanInReach area at
 scan_in_reach eye tri area w x y at he ht hw hx hy scan whole = record {
   weights = subst IsSmall (sym scan.weights) (seen_small eye tri (spot w x y) he ht (spot_near w x y hw hx hy));
-  rest = scan.rest;
+  remainder = scan.remainder;
   whole = whole;
 }
 

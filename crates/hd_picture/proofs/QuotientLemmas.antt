@@ -1,33 +1,33 @@
--- Quotients with a rest, step by step.
+-- Quotients with a remainder, step by step.
 use Rattle.std.proofs.Common.{◌≡◌, ℕ, ◌<◌, ◌^◌, arith, ◌*◌, ◌≤◌, mul-le-mul_right, ℤ, pos, negsuc, ◌+ℤ◌, ◌-ℤ◌, ◌*ℤ◌, ◌≤ℤ◌, ◌<ℤ◌}
 use Rattle.std.specs.Int.{int_div_euclid, int_rem_euclid}
 use Rattle.std.proofs.lemmas.Int.{ints}
 use Rattle.hd_picture.specs.declared.quotients.Quotient.{Quotient}
 use Rattle.hd_picture.specs.Depth.{floor_div}
 use Rattle.hd_picture.specs.Limits.{IsWithin}
-use Rattle.hd_picture.specs.Scanning.{IsAdvanced, IsQuotient, IsQuotientStep, IsRest}
+use Rattle.hd_picture.specs.Scanning.{IsAdvanced, IsQuotient, IsQuotientStep, IsRemainder}
 use Rattle.hd_picture.proofs.Floors.{floor_at_most, floor_div_is, floor_greatest, floor_least, floor_most}
 use Rattle.hd_picture.proofs.Integers.{mul-add, mul-le-mul, mul-sub}
 
 pub times_one : (d : ℤ) → d *ℤ pos 1 ≡ d
 times_one d = omega (arith, ints)
 
-module _ (area : ℤ) (at step next : Quotient) (h : IsRest area at.rest) (k : IsRest area (step.rest +ℤ area)) (near : IsWithin (2 ^ 55) step.whole) where
-  pub advanced_less : next.whole ≡ at.whole +ℤ step.whole -ℤ pos 1 → next.rest ≡ at.rest +ℤ step.rest +ℤ area → (at.rest +ℤ step.rest) <ℤ pos 0 → IsAdvanced area at step next
+module _ (area : ℤ) (at step next : Quotient) (h : IsRemainder area at.remainder) (k : IsRemainder area (step.remainder +ℤ area)) (near : IsWithin (2 ^ 55) step.whole) where
+  pub advanced_less : next.whole ≡ at.whole +ℤ step.whole -ℤ pos 1 → next.remainder ≡ at.remainder +ℤ step.remainder +ℤ area → (at.remainder +ℤ step.remainder) <ℤ pos 0 → IsAdvanced area at step next
   advanced_less e f l = record {
     value = rw (e, f, mul-sub area (at.whole +ℤ step.whole) (pos 1), mul-add area at.whole step.whole, times_one area) (omega (arith, ints));
-    rest = record { least = omega (arith, ints); most = omega (arith, ints) };
+    remainder = record { least = omega (arith, ints); most = omega (arith, ints) };
     near = record { low = omega (arith, ints); high = omega (arith, ints) };
   }
 
-  pub advanced_more : next.whole ≡ at.whole +ℤ step.whole → next.rest ≡ at.rest +ℤ step.rest → pos 0 ≤ℤ (at.rest +ℤ step.rest) → IsAdvanced area at step next
+  pub advanced_more : next.whole ≡ at.whole +ℤ step.whole → next.remainder ≡ at.remainder +ℤ step.remainder → pos 0 ≤ℤ (at.remainder +ℤ step.remainder) → IsAdvanced area at step next
   advanced_more e f l = record {
     value = rw (e, f, mul-add area at.whole step.whole) (omega (arith, ints));
-    rest = record { least = omega (arith, ints); most = omega (arith, ints) };
+    remainder = record { least = omega (arith, ints); most = omega (arith, ints) };
     near = record { low = omega (arith, ints); high = omega (arith, ints) };
   }
 
--- the quotient and the rest that the machine divides into
+-- the quotient and the remainder that the machine divides into
 pub record IsEuclid (n d : ℤ) : Type 0 where
   pub sum : d *ℤ int_div_euclid n d +ℤ int_rem_euclid n d ≡ n
   pub least : pos 0 ≤ℤ int_rem_euclid n d
@@ -41,12 +41,12 @@ pub is_euclid : (n d : ℤ) → pos 0 <ℤ d → IsEuclid n d
 is_euclid n (pos k) h = euclid_at n k (omega (arith, ints))
 is_euclid n (negsuc k) h = absurd (omega (arith, ints))
 
-pub quotient_is : (n area : ℤ) (q : Quotient) → pos 0 <ℤ area → q.whole ≡ int_div_euclid n area → q.rest ≡ int_rem_euclid n area → IsWithin (2 ^ 60) q.whole → IsQuotient n area q
+pub quotient_is : (n area : ℤ) (q : Quotient) → pos 0 <ℤ area → q.whole ≡ int_div_euclid n area → q.remainder ≡ int_rem_euclid n area → IsWithin (2 ^ 60) q.whole → IsQuotient n area q
 quotient_is n area q p e f reach =
     let h = is_euclid n area p in
     record {
       value = rw (e, f) h.sum;
-      rest = record { least = rw f h.least; most = rw f h.most };
+      remainder = record { least = rw f h.least; most = rw f h.most };
       reach = reach;
     }
 
@@ -67,7 +67,7 @@ step_reach n area p h =
     floor_least n area (pos 0 -ℤ pos (2 ^ 54)) p (rw (mul-sub area (pos 0) (pos (2 ^ 54))) (omega (arith, ints))) in
     record { low = omega (arith, ints); high = omega (arith, ints) }
 
-pub step_is : (n area : ℤ) (q : Quotient) → pos 0 <ℤ area → IsWithin (2 ^ 54) n → q.whole ≡ int_div_euclid n area +ℤ pos 1 → q.rest ≡ int_rem_euclid n area -ℤ area → IsQuotientStep n area q
+pub step_is : (n area : ℤ) (q : Quotient) → pos 0 <ℤ area → IsWithin (2 ^ 54) n → q.whole ≡ int_div_euclid n area +ℤ pos 1 → q.remainder ≡ int_rem_euclid n area -ℤ area → IsQuotientStep n area q
 step_is n area q p near e f =
     let h = is_euclid n area p in
     let r = step_reach n area p near in

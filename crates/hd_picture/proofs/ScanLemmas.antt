@@ -11,7 +11,7 @@ use Rattle.hd_picture.specs.declared.scans.Scan.{Scan}
 use Rattle.hd_picture.specs.Coverage.{covers, total, weights_seen}
 use Rattle.hd_picture.specs.Depth.{depth, floor_div}
 use Rattle.hd_picture.specs.Pixels.{fragment}
-use Rattle.hd_picture.specs.Scanning.{IsAdvanced, IsDepthScan, IsInside, IsNearer, IsQuotientStep, IsRest, IsScan, IsShown, IsStep, IsStepWeights, added, shifted, value_of}
+use Rattle.hd_picture.specs.Scanning.{IsAdvanced, IsDepthScan, IsInside, IsNearer, IsQuotientStep, IsRemainder, IsScan, IsShown, IsStep, IsStepWeights, added, shifted, value_of}
 use Rattle.hd_picture.specs.Shading.{IsSeen, fragment_by, weighed}
 use Rattle.hd_picture.specs.Tiling.{over}
 use Rattle.hd_picture.proofs.Covers.{IsRight, covers_cases, covers_left, fragment_is}
@@ -25,9 +25,9 @@ use Rattle.hd_picture.proofs.Ways.{change, weighed-added, weights-shifted}
 times_one : (d : ℤ) → d *ℤ pos 1 ≡ d
 times_one d = omega (arith, ints)
 
--- a quotient with a rest below the area is the one rounded down
-pub whole_is : (n area : ℤ) (q : Quotient) → pos 0 <ℤ area → value_of area q ≡ n → IsRest area q.rest → floor_div n area ≡ q.whole
-whole_is n area q p e rest =
+-- a quotient with a remainder below the area is the one rounded down
+pub whole_is : (n area : ℤ) (q : Quotient) → pos 0 <ℤ area → value_of area q ≡ n → IsRemainder area q.remainder → floor_div n area ≡ q.whole
+whole_is n area q p e remainder =
     let least : q.whole ≤ℤ floor_div n area = floor_least n area q.whole p (omega (arith, ints)) in
     let most : floor_div n area <ℤ (q.whole +ℤ pos 1) =
     mul-lt_cancel area (floor_div n area) (q.whole +ℤ pos 1) p
@@ -59,7 +59,7 @@ scan_moved eye tri area q r way at step next h s e d to =
     record {
       weights = e ∙ ap (λ (w : Weights). added w step.weights) h.weights ∙ sym same;
       value = sum same;
-      rest = d.rest;
+      remainder = d.remainder;
     }
   where
     sum : weights_seen eye tri r ≡ added (weights_seen eye tri q) step.weights → value_of area next.depth ≡ weighed (weights_seen eye tri r) tri
@@ -79,13 +79,13 @@ pub depth_moved : (eye : Vec3) (tri : WorldTri) (area : ℤ) (q r way : Place) (
 depth_moved eye tri area q r way at next step h s d to =
     let w = weights_seen eye tri q in
     let m = scan_moved eye tri area q r way (record { weights = w; depth = at }) step (record { weights = added w step.weights; depth = next })
-    (record { weights = refl; value = h.value; rest = h.rest }) s refl d to in
-    record { value = m.value; rest = m.rest }
+    (record { weights = refl; value = h.value; remainder = h.remainder }) s refl d to in
+    record { value = m.value; remainder = m.remainder }
 
 module _ (eye : Vec3) (tri : WorldTri) (area : ℤ) (q : Place) (at : Scan) (p : pos 0 <ℤ area) (left : total (weights_seen eye tri q) ≡ area) (h : IsScan eye tri area q at) where
   depth_is : depth (weights_seen eye tri q) tri ≡ at.depth.whole
   unfolding depth
-  depth_is = ap (floor_div (weighed (weights_seen eye tri q) tri)) left ∙ whole_is (weighed (weights_seen eye tri q) tri) area at.depth p h.value h.rest
+  depth_is = ap (floor_div (weighed (weights_seen eye tri q) tri)) left ∙ whole_is (weighed (weights_seen eye tri q) tri) area at.depth p h.value h.remainder
 
   inside_is : IsInside at.weights → covers (weights_seen eye tri q) ≡ true
   inside_is i =
@@ -142,7 +142,7 @@ module _ (eye : Vec3) (tri : WorldTri) (area : ℤ) (q : Place) (at : Quotient) 
   scan = record { weights = weights_seen eye tri q; depth = at }
 
   is_scan : IsScan eye tri area q scan
-  is_scan = record { weights = refl; value = h.value; rest = h.rest }
+  is_scan = record { weights = refl; value = h.value; remainder = h.remainder }
 
   pub nearer_is : (cell : Fragment) → IsNearer at.whole eye.z cell.depth → record { depth = at.whole; color = tri.color } ≡ over cell (fragment eye q tri)
   nearer_is cell n = shown_is eye tri area q scan p left is_scan cell (record { covered = covered; shown = n })

@@ -40,30 +40,30 @@ abbrev pub added : (v w : Weights) → Weights
 added v w = record { a = v.a +ℤ w.a; b = v.b +ℤ w.b; c = v.c +ℤ w.c }
 
 -- what is left over by a division by an area
-pub record IsRest (area rest : ℤ) : Type 0 where
-  pub least : pos 0 ≤ℤ rest
-  pub most : rest <ℤ area
+pub record IsRemainder (area remainder : ℤ) : Type 0 where
+  pub least : pos 0 ≤ℤ remainder
+  pub most : remainder <ℤ area
 
 -- the number that a quotient stands for
 abbrev pub value_of : (area : ℤ) → Quotient → ℤ
-value_of area q = area *ℤ q.whole +ℤ q.rest
+value_of area q = area *ℤ q.whole +ℤ q.remainder
 
 -- n divided by an area and rounded down, within reach of steps
 pub record IsQuotient (n area : ℤ) (q : Quotient) : Type 0 where
   pub value : value_of area q ≡ n
-  pub rest : IsRest area q.rest
+  pub remainder : IsRemainder area q.remainder
   pub reach : IsWithin (2 ^ 60) q.whole
 
--- a change divided by an area, with the next whole number above the quotient: the rest is below 0 by at most an area
+-- a change divided by an area, with the next whole number above the quotient: the remainder is below 0 by at most an area
 pub record IsQuotientStep (change area : ℤ) (q : Quotient) : Type 0 where
   pub value : value_of area q ≡ change
-  pub lack : IsRest area (q.rest +ℤ area)
+  pub lack : IsRemainder area (q.remainder +ℤ area)
   pub reach : IsWithin (2 ^ 55) q.whole
 
 -- the quotient after one more step
 pub record IsAdvanced (area : ℤ) (at step next : Quotient) : Type 0 where
   pub value : value_of area next ≡ value_of area at +ℤ value_of area step
-  pub rest : IsRest area next.rest
+  pub remainder : IsRemainder area next.remainder
   pub near : IsWithin (2 ^ 56) (next.whole -ℤ at.whole)
 
 -- weights that change little from a pixel to the next
@@ -75,19 +75,19 @@ pub record IsStepWeights (w : Weights) : Type 0 where
 -- a scan from which a step can be taken, and such a step
 pub record IsScanInReach (area : ℤ) (at : Scan) : Type 0 where
   pub weights : IsSmall at.weights
-  pub rest : IsRest area at.depth.rest
+  pub remainder : IsRemainder area at.depth.remainder
   pub whole : IsWithin (2 ^ 62) at.depth.whole
 
 pub record IsStepInReach (area : ℤ) (step : Scan) : Type 0 where
   pub weights : IsStepWeights step.weights
-  pub lack : IsRest area (step.depth.rest +ℤ area)
+  pub lack : IsRemainder area (step.depth.remainder +ℤ area)
   pub whole : IsWithin (2 ^ 55) step.depth.whole
 
 -- the weights of a triangle at a place, and its depth there
 pub record IsScan (eye : Vec3) (tri : WorldTri) (area : ℤ) (q : Place) (at : Scan) : Type 0 where
   pub weights : at.weights ≡ weights_seen eye tri q
   pub value : value_of area at.depth ≡ weighed (weights_seen eye tri q) tri
-  pub rest : IsRest area at.depth.rest
+  pub remainder : IsRemainder area at.depth.remainder
 
 -- how both change on a way, wherever it begins
 pub record IsStep (eye : Vec3) (tri : WorldTri) (area : ℤ) (way : Place) (step : Scan) : Type 0 where
@@ -141,4 +141,4 @@ IsRowCovered eye w tri row = (x : ℕ) → x < 16 → IsInside (weights_seen eye
 -- the depth of a triangle's plane at a place
 pub record IsDepthScan (eye : Vec3) (tri : WorldTri) (area : ℤ) (q : Place) (at : Quotient) : Type 0 where
   pub value : value_of area at ≡ weighed (weights_seen eye tri q) tri
-  pub rest : IsRest area at.rest
+  pub remainder : IsRemainder area at.remainder

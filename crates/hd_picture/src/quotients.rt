@@ -1,18 +1,18 @@
-//! Quotients with a rest, which follow a fraction from step to step without a division.
+//! Quotients with a remainder, which follow a fraction from step to step without a division.
 
 ghost use Rattle.std.specs.Prelude.{◌^◌, MatchOption, pos, ◌+ℤ◌, ◌<ℤ◌, ◌≤ℤ◌};
 ghost use Rattle.hd_picture.specs.Depth.{floor_div};
 ghost use Rattle.hd_picture.specs.Limits.{IsWithin};
-ghost use Rattle.hd_picture.specs.Scanning.{IsAdvanced, IsQuotient, IsQuotientStep, IsRest};
+ghost use Rattle.hd_picture.specs.Scanning.{IsAdvanced, IsQuotient, IsQuotientStep, IsRemainder};
 
 /// The greatest distance from 0 of a quotient that `quotient_of` answers.
 const REACH: i128 = 1 << 60;
 
-/// A whole number of areas, and a rest.
+/// A whole number of areas, and a remainder.
 #[derive(Clone, Copy)]
 pub struct Quotient {
     pub whole: i64,
-    pub rest: i64,
+    pub remainder: i64,
 }
 
 /// A sum divided by an area and rounded down, `None` where that is beyond 2^60.
@@ -28,12 +28,11 @@ pub fn quotient_of(sum: i128, area: i64) -> Option<Quotient>
     }
     Some(Quotient {
         whole: whole as i64,
-        rest: sum.rem_euclid(divisor) as i64,
+        remainder: sum.rem_euclid(divisor) as i64,
     })
 }
 
-/// A change divided by an area, with the next whole number above the quotient, so that the rest is
-/// below 0.
+/// A change divided by an area, with the next whole number above the quotient, so that the remainder is below 0.
 pub fn quotient_step(change: i64, area: i64) -> Quotient
     requires change { IsWithin (2 ^ 54) change }
     requires area { pos 0 <ℤ area }
@@ -41,31 +40,31 @@ pub fn quotient_step(change: i64, area: i64) -> Quotient
 {
     Quotient {
         whole: change.div_euclid(area) + 1,
-        rest: change.rem_euclid(area) - area,
+        remainder: change.rem_euclid(area) - area,
     }
 }
 
 /// The quotient after one more step.
 pub fn advanced(at: Quotient, step: Quotient, area: i64) -> Quotient
     requires area { area ≤ℤ pos (2 ^ 61) }
-    requires at { IsRest area at.rest }
+    requires at { IsRemainder area at.remainder }
     requires reach { IsWithin (2 ^ 62) at.whole }
     requires step { IsWithin (2 ^ 55) step.whole }
-    requires lack { IsRest area (step.rest +ℤ area) }
+    requires lack { IsRemainder area (step.remainder +ℤ area) }
     ensures { IsAdvanced area at step result }
 {
-    // The step's whole is one above its quotient, and its rest is below 0. Where the rests add up to less than 0, they
-    // make no whole, and that one is taken back.
-    let rest = at.rest + step.rest;
-    if rest < 0 {
+    // The step's whole is one above its quotient, and its remainder is below 0. Where the remainders add up to less than
+    // 0, they make no whole, and that one is taken back.
+    let remainder = at.remainder + step.remainder;
+    if remainder < 0 {
         Quotient {
             whole: at.whole + step.whole - 1,
-            rest: rest + area,
+            remainder: remainder + area,
         }
     } else {
         Quotient {
             whole: at.whole + step.whole,
-            rest,
+            remainder,
         }
     }
 }

@@ -22,9 +22,9 @@ pub struct MemoryRack {
 
 impl Model for MemoryRack {
     ghost use Rattle.hd_io.specs.Files.{file_list};
-    ghost use Rattle.hd_io.specs.MemoryRack.{RackState, HasOpenFile};
+    ghost use Rattle.hd_io.specs.MemoryRack.{MemoryRackState, HasOpenFile};
 
-    ghost Value = { RackState };
+    ghost Value = { MemoryRackState };
 
     ghost view = { λ r. record {
       files = file_list r.files.items;

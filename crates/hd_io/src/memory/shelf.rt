@@ -28,9 +28,9 @@ pub struct MemoryShelf {
 impl Model for MemoryShelf {
     ghost use Rattle.hd_io.specs.Failures.{failed_name};
     ghost use Rattle.hd_io.specs.Files.{file_list};
-    ghost use Rattle.hd_io.specs.MemoryShelf.{ShelfState, name_at, IsPlaced};
+    ghost use Rattle.hd_io.specs.MemoryShelf.{MemoryShelfState, name_at, IsPlaced};
 
-    ghost Value = { ShelfState };
+    ghost Value = { MemoryShelfState };
 
     ghost view = { λ s. record {
       files = file_list s.files.items;

@@ -18,9 +18,9 @@ pub struct MemorySink {
 }
 
 impl Model for MemorySink {
-    ghost use Rattle.hd_io.specs.MemorySink.{SinkState};
+    ghost use Rattle.hd_io.specs.MemorySink.{MemorySinkState};
 
-    ghost Value = { SinkState };
+    ghost Value = { MemorySinkState };
 
     ghost view = { λ s. record { bytes = s.bytes.items; faults = s.faults; calls = s.calls } };
 }

@@ -24,7 +24,7 @@ advanced-at-requires-clause-at c =
     let left = c.requires.face.left in
     let most = c.requires.face.most in
     let area : read c.args.face.area ≡ c.args.face.area = omega (arith, ints) in
-    rw area c.loop-x.invariant.scan.rest
+    rw area c.loop-x.invariant.scan.remainder
 
 pub advanced-at-requires-clause-step : goal.advanced-at-requires-clause-step
 advanced-at-requires-clause-step c = c.requires.face.right.reach.whole

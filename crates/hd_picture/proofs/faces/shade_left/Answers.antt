@@ -51,7 +51,7 @@ shade_face-requires-clause-start c =
     record {
       weights = e;
       value = rw same (quotient.value ∙ ap (λ (v : Weights). weighed v c.args.tri.now) e);
-      rest = rw same quotient.rest;
+      remainder = rw same quotient.remainder;
     }
 
 pub returns-in-None-clause-shaded : goal.returns-in-None-clause-shaded

@@ -26,4 +26,4 @@ shade_covered-requires-clause-covered c =
     row_covered c.args.eye c.args.tri.now c.args.face.area c.args.window c.args.row c.args.face.right c.requires.face.right start last
 
 pub shade_covered-requires-clause-start : goal.shade_covered-requires-clause-start
-shade_covered-requires-clause-start c = record { value = c.requires.start.value; rest = c.requires.start.rest }
+shade_covered-requires-clause-start c = record { value = c.requires.start.value; remainder = c.requires.start.remainder }

@@ -33,5 +33,5 @@ returns c =
     let least : pos 0 ≤ℤ c.rem_euclid.result = rw r h.least in
     let most : c.rem_euclid.result <ℤ c.args.area = rw r h.most in
     let whole : read (read128 c.div_euclid-whole.result) ≡ c.div_euclid-whole.result = omega (arith, ints) in
-    let rest : read (read128 c.rem_euclid.result) ≡ c.rem_euclid.result = omega (arith, ints) in
-    quotient_is c.args.sum c.args.area _ c.requires.area (whole ∙ q) (rest ∙ r) (rw whole (record { low = omega (arith, ints); high = omega (arith, ints) }))
+    let remainder : read (read128 c.rem_euclid.result) ≡ c.rem_euclid.result = omega (arith, ints) in
+    quotient_is c.args.sum c.args.area _ c.requires.area (whole ∙ q) (remainder ∙ r) (rw whole (record { low = omega (arith, ints); high = omega (arith, ints) }))

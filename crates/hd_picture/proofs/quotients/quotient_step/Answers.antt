@@ -17,5 +17,5 @@ returns c =
     let least : pos 0 ≤ℤ c.rem_euclid.result = rw r h.least in
     let most : c.rem_euclid.result <ℤ c.args.area = rw r h.most in
     let whole : read (read c.div_euclid.result +ℤ pos 1) ≡ c.div_euclid.result +ℤ pos 1 = omega (arith, ints) in
-    let rest : read (read c.rem_euclid.result -ℤ read c.args.area) ≡ c.rem_euclid.result -ℤ c.args.area = omega (arith, ints) in
-    step_is c.args.change c.args.area _ c.requires.area c.requires.change (whole ∙ ap (λ (z : ℤ). z +ℤ pos 1) q) (rest ∙ ap (λ (z : ℤ). z -ℤ c.args.area) r)
+    let remainder : read (read c.rem_euclid.result -ℤ read c.args.area) ≡ c.rem_euclid.result -ℤ c.args.area = omega (arith, ints) in
+    step_is c.args.change c.args.area _ c.requires.area c.requires.change (whole ∙ ap (λ (z : ℤ). z +ℤ pos 1) q) (remainder ∙ ap (λ (z : ℤ). z -ℤ c.args.area) r)
