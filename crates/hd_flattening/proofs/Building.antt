@@ -12,15 +12,15 @@ use Rattle.hd_value.specs.declared.value.Value.TheVariants.{Token, Tokens, Ints,
 use Rattle.hd_value.specs.Falls.{locators_total, locators_tie}
 use Rattle.hd_value.specs.Locators.{is_same, is_prefix}
 use Rattle.hd_value.specs.Maps.{Map}
-use Rattle.hd_value.specs.Shapes.{Row, two, allows, passed_rows, flattened_away_rows, instanced_by_row, reset_row, is_named_op, is_authored, is_instanced, IsInstanced}
+use Rattle.hd_value.specs.Schema.{Row, allows, passed_rows, flattened_away_rows, instanced_by_row, reset_row, is_named_op, is_authored, is_instanced, IsInstanced}
 use Rattle.hd_value.proofs.Prefixes.{same_text, and_true, or_false}
 use Rattle.hd_value.proofs.Getting.{eqk}
 use Rattle.hd_value.proofs.Setting.{get-set_at}
-use Rattle.hd_flattening.specs.Values.{matrix_at, visibility_at, purpose_at, binding_at, color_at}
+use Rattle.hd_tokens.specs.Locators.{op_at, matrix_at, visibility_at, purpose_at, binding_at, color_at}
 use Rattle.hd_flattening.specs.Flat.{flat_matrix, is_visible, flat_purpose, flat_binding, flat_colors}
 use Rattle.hd_flattening.specs.Flattened.{passes, matrix_value, with_binding, flat_values}
-use Rattle.hd_flattening.specs.Places.{flat_places, passed_places, is_among, StandsIn, with_value, with_passed, with_all_passed, binding_value}
-use Rattle.hd_flattening.proofs.Placing.{same, true_is_not, some_is_not, each_among, places_apart}
+use Rattle.hd_flattening.specs.FlatLocators.{flat_locators, passed_locators, is_among, IsWithin, with_value, with_passed, with_all_passed, binding_value}
+use Rattle.hd_flattening.proofs.Placing.{same, true_is_not, some_is_not, each_among, locators_apart}
 
 -- what passes of a prim's own
 abbrev pub passed_at : Map → List (List ℕ) → Option Value
@@ -84,12 +84,12 @@ row_of_value test (row ∷ rows) q v all e =
 
 -- where a value passes, it stands at a place
 abbrev pub is_placed : List (List ℕ) → Bool
-is_placed q = not (passes q) || is_among flat_places q
+is_placed q = not (passes q) || is_among flat_locators q
 
 -- an op stands below `xform`, and does not pass
 pub op_apart : (q : List (List ℕ)) (v : Value) → is_named_op q v ≡ true → not (passes q) ≡ true
 op_apart (a ∷ b ∷ name ∷ []) (Op op) e =
-    let both = and_true (is_prefix (two (codes "xform") (codes "ops")) (a ∷ b ∷ [])) _ e in
+    let both = and_true (is_prefix (op_at name) (a ∷ b ∷ name ∷ [])) _ e in
     let first = and_true (is_same (codes "xform") a) _ both.0 in
     let is : codes "xform" ≡ a = same_text (codes "xform") a first.0 in
     subst (λ (w : List ℕ). not (passes (w ∷ b ∷ name ∷ [])) ≡ true) is refl
@@ -109,7 +109,7 @@ op_apart (a ∷ b ∷ []) v e = true_is_not (sym e)
 op_apart (a ∷ b ∷ name ∷ more ∷ rest) v e = true_is_not (sym e)
 
 op_placed : (q : List (List ℕ)) (v : Value) → is_named_op q v ≡ true → is_placed q ≡ true
-op_placed q v e = ap (λ b. b || is_among flat_places q) (op_apart q v e)
+op_placed q v e = ap (λ b. b || is_among flat_locators q) (op_apart q v e)
 
 pub instanced_placed : (q : List (List ℕ)) (v : Value) → is_instanced q v ≡ true → is_placed q ≡ true
 instanced_placed q v e = either (is_authored q v) (allows (instanced_by_row ∷ reset_row ∷ []) q v) (is_placed q)
@@ -124,26 +124,26 @@ instanced_placed q v e = either (is_authored q v) (allows (instanced_by_row ∷ 
     either false b c f g h = g h
 
 -- each value of a flat prim stands at a place
-pub flat_stands : (prim : Map) (above : List Map) → IsInstanced prim → StandsIn flat_places (flat_values prim above)
-flat_stands prim above shape q some =
-    elim (is_among flat_places q) as (λ b. is_among flat_places q ≡ b → b ≡ true) [
+pub flat_within : (prim : Map) (above : List Map) → IsInstanced prim → IsWithin flat_locators (flat_values prim above)
+flat_within prim above fits q some =
+    elim (is_among flat_locators q) as (λ b. is_among flat_locators q ≡ b → b ≡ true) [
       | true ↦ λ _. refl
       | false ↦ λ nowhere. absurd (some (none nowhere))
     ] refl
   where
-    passed_none : is_among flat_places q ≡ false → passed_at prim q ≡ None
+    passed_none : is_among flat_locators q ≡ false → passed_at prim q ≡ None
     passed_none nowhere =
         elim (get prim q) as (λ o. get prim q ≡ o → cond (passes q) o None ≡ None) [
           | None ↦ λ _. elim (passes q) as (λ b. ◌≡◌ {A = Option Value} (cond b None None) None) [ true ↦ refl | false ↦ refl ]
           | Some v ↦ λ there. elim (passes q) as (λ b. passes q ≡ b → ◌≡◌ {A = Option Value} (cond b (Some v) None) None) [
             | true ↦ λ passing.
-                let placed : (not (passes q) || is_among flat_places q) ≡ true = instanced_placed q v (shape q v there) in
-                true_is_not (sym placed ∙ ap (λ b. not b || is_among flat_places q) passing ∙ nowhere)
+                let placed : (not (passes q) || is_among flat_locators q) ≡ true = instanced_placed q v (fits q v there) in
+                true_is_not (sym placed ∙ ap (λ b. not b || is_among flat_locators q) passing ∙ nowhere)
             | false ↦ λ _. refl
           ] refl
         ] refl
 
-    none : is_among flat_places q ≡ false → get (flat_values prim above) q ≡ None
+    none : is_among flat_locators q ≡ false → get (flat_values prim above) q ≡ None
     none nowhere =
         let r0 = or_false (same q matrix_at) _ nowhere in
         let r1 = or_false (same q visibility_at) _ r0.1 in
@@ -178,17 +178,17 @@ same_itself : (a : List (List ℕ)) → same a a ≡ true
 same_itself a = names_ties a a ∙ (eq_by_cmp_equiv locators_total).refl a
 
 -- nothing stands below a place
-nothing_below : (whole : Map) (at q : List (List ℕ)) → StandsIn flat_places whole → is_among flat_places at ≡ true → is_prefix at q ≡ true → same q at ≡ false → get whole q ≡ None
+nothing_below : (whole : Map) (at q : List (List ℕ)) → IsWithin flat_locators whole → is_among flat_locators at ≡ true → is_prefix at q ≡ true → same q at ≡ false → get whole q ≡ None
 nothing_below whole at q stands among below elsewhere =
     elim (get whole q) as (λ o. get whole q ≡ o → o ≡ None) [
       | None ↦ λ _. refl
       | Some w ↦ λ there.
-          let one : at ≡ q = places_apart at q among (stands q (λ none. some_is_not w (sym there ∙ none))) below in
+          let one : at ≡ q = locators_apart at q among (stands q (λ none. some_is_not w (sym there ∙ none))) below in
           true_is_not (sym (same_itself q) ∙ ap (same q) (sym one) ∙ elsewhere)
     ] refl
 
 -- one more value of the whole
-pub held_more : (whole : Map) {seen : List (List (List ℕ))} {m : Map} → Holds whole seen m → (at : List (List ℕ)) (o : Option Value) → StandsIn flat_places whole → is_among flat_places at ≡ true → get whole at ≡ o → Holds whole (at ∷ seen) (with_value m at o)
+pub held_more : (whole : Map) {seen : List (List (List ℕ))} {m : Map} → Holds whole seen m → (at : List (List ℕ)) (o : Option Value) → IsWithin flat_locators whole → is_among flat_locators at ≡ true → get whole at ≡ o → Holds whole (at ∷ seen) (with_value m at o)
 held_more whole {seen} {m} held at None stands among is = record {
   answers = λ q. elim (same q at) as (λ b. same q at ≡ b → get m q ≡ cond (b || is_among seen q) (get whole q) None) [
     | true ↦ λ here.
@@ -210,20 +210,20 @@ held_more whole {seen} {m} held at (Some v) stands among is = record {
 }
 
 -- the same of what passes at some places
-pub held_passed : (prim whole : Map) → StandsIn flat_places whole → (places : List (List (List ℕ))) {seen : List (List (List ℕ))} {m : Map} → Holds whole seen m
-    → AllByRecursion (λ at. (is_among flat_places at ≡ true) × (get whole at ≡ get prim at)) places → Holds whole (fold (λ ats at. at ∷ ats) seen places) (fold (with_passed prim) m places)
+pub held_passed : (prim whole : Map) → IsWithin flat_locators whole → (places : List (List (List ℕ))) {seen : List (List (List ℕ))} {m : Map} → Holds whole seen m
+    → AllByRecursion (λ at. (is_among flat_locators at ≡ true) × (get whole at ≡ get prim at)) places → Holds whole (fold (λ ats at. at ∷ ats) seen places) (fold (with_passed prim) m places)
 held_passed prim whole stands [] {seen} {m} held all = held
 held_passed prim whole stands (at ∷ places) {seen} {m} held all =
     held_passed prim whole stands places {seen = at ∷ seen} {m = with_passed prim m at} (held_more whole held at (get prim at) stands all.0.0 all.0.1) all.1
 
 -- a map that answers as the whole at each place is the whole
-pub all_held : (whole : Map) {seen : List (List (List ℕ))} {m : Map} → Holds whole seen m → StandsIn flat_places whole → list_all (is_among seen) flat_places ≡ true → m ≡ whole
+pub all_held : (whole : Map) {seen : List (List (List ℕ))} {m : Map} → Holds whole seen m → IsWithin flat_locators whole → list_all (is_among seen) flat_locators ≡ true → m ≡ whole
 all_held whole {seen} {m} held stands all = same_map locators_total locators_tie m whole (λ q.
     held.answers q ∙ elim (is_among seen q) as (λ b. is_among seen q ≡ b → cond b (get whole q) None ≡ get whole q) [
       | true ↦ λ _. refl
       | false ↦ λ unseen. elim (get whole q) as (λ o. get whole q ≡ o → None ≡ o) [
         | None ↦ λ _. refl
-        | Some v ↦ λ there. true_is_not (sym (each_among (is_among seen) flat_places q all (stands q (λ none. some_is_not v (sym there ∙ none)))) ∙ unseen)
+        | Some v ↦ λ there. true_is_not (sym (each_among (is_among seen) flat_locators q all (stands q (λ none. some_is_not v (sym there ∙ none)))) ∙ unseen)
       ] refl
     ] refl)
 
@@ -232,17 +232,17 @@ pub put_more : {m n k : Map} (at : List (List ℕ)) {o p : Option Value} → k �
 put_more {m} at {o} put is valued = put ∙ ap (λ (n : Map). with_value n at o) is ∙ ap (with_value m at) valued
 
 -- nothing stands in the empty map
-pub empty_stands : (m : Map) → m ≡ empty → StandsIn flat_places m
-empty_stands m is q some = absurd (some (ap (λ (n : Map). get n q) is ∙ get-empty (slice_cmp (slice_cmp nat_cmp)) q))
+pub empty_within : (m : Map) → m ≡ empty → IsWithin flat_locators m
+empty_within m is q some = absurd (some (ap (λ (n : Map). get n q) is ∙ get-empty (slice_cmp (slice_cmp nat_cmp)) q))
 
 -- the flat values, put one after the other
 pub built : (prim : Map) (above : List Map) → IsInstanced prim →
     with_all_passed prim
     (with_value (with_value (with_value (with_value (with_value empty matrix_at (Some (matrix_value (flat_matrix (prim ∷ above))))) visibility_at (Some (Flag (is_visible (prim ∷ above))))) purpose_at (Some (Token (flat_purpose (prim ∷ above))))) binding_at (binding_value (flat_binding (prim ∷ above)))) color_at (Some (Colors (flat_colors (prim ∷ above)))))
     ≡ flat_values prim above
-built prim above shape =
+built prim above fits =
     let whole : Map = flat_values prim above in
-    let stands : StandsIn flat_places whole = flat_stands prim above shape in
+    let stands : IsWithin flat_locators whole = flat_within prim above fits in
     let at : (q : List (List ℕ)) → get whole q ≡ cond (eqk q binding_at) (option_or (binding_value (flat_binding (prim ∷ above))) (unbound_at prim above q)) (unbound_at prim above q) = get-flat_values prim above in
     let h0 = none_held whole in
     let h1 = held_more whole h0 matrix_at (Some (matrix_value (flat_matrix (prim ∷ above)))) stands refl (at matrix_at) in
@@ -250,7 +250,7 @@ built prim above shape =
     let h3 = held_more whole h2 purpose_at (Some (Token (flat_purpose (prim ∷ above)))) stands refl (at purpose_at) in
     let h4 = held_more whole h3 binding_at (binding_value (flat_binding (prim ∷ above))) stands refl (at binding_at ∙ or_none (binding_value (flat_binding (prim ∷ above)))) in
     let h5 = held_more whole h4 color_at (Some (Colors (flat_colors (prim ∷ above)))) stands refl (at color_at) in
-    let passed = held_passed prim whole stands passed_places h5 ((refl, at _), ((refl, at _), ((refl, at _), ((refl, at _), ((refl, at _), ((refl, at _), ((refl, at _), ((refl, at _), tt)))))))) in
+    let passed = held_passed prim whole stands passed_locators h5 ((refl, at _), ((refl, at _), ((refl, at _), ((refl, at _), ((refl, at _), ((refl, at _), ((refl, at _), ((refl, at _), tt)))))))) in
     all_held whole passed stands refl
   where
     or_none : (o : Option Value) → option_or o None ≡ o

@@ -7,7 +7,7 @@ use Rattle.std.specs.FinMap.{get}
 use Rattle.hd_num.specs.Matrices.{Rows}
 use Rattle.hd_value.specs.Maps.{Map}
 use Rattle.hd_scene.specs.Scenes.{Scene, prim_of}
-use Rattle.hd_flattening.specs.Local.{composed, local, is_reset}
+use Rattle.hd_flattening.specs.Local.{compose, local, is_reset}
 use Rattle.hd_flattening.specs.Flat.{values_at, ancestors, flat_matrix, is_invisible, is_visible}
 use Rattle.hd_flattening.specs.Laws.{lineage, flat_matrix_at, MatrixOfChild, MatrixOutOfRange, MatrixOfRoot, MatrixOfReset, InvisibleHides}
 use Rattle.hd_flattening.proofs.Walking.{ancestors-parent, prim_values-prim_of}
@@ -29,21 +29,21 @@ suc_not_zero n = elim (suc n == 0) as (λ b. (suc n == 0) ≡ b → b ≡ false)
 
 -- neither reset nor a root prim
 composes : (scene : Scene) (path : List (List ℕ)) (name : List ℕ) → path ≢ [] → is_reset (values_at scene (path ++ name ∷ [])) ≡ false
-    → flat_matrix_at scene (path ++ name ∷ []) ≡ composed (local (values_at scene (path ++ name ∷ []))) (flat_matrix_at scene path)
+    → flat_matrix_at scene (path ++ name ∷ []) ≡ compose (local (values_at scene (path ++ name ∷ []))) (flat_matrix_at scene path)
 composes scene path name some unreset =
     ap (λ (above : List Map). flat_matrix (values_at scene (path ++ name ∷ []) ∷ above)) (ancestors-child scene path name some)
-    ∙ ap (λ b. cond (is_reset (values_at scene (path ++ name ∷ [])) || b) (local (values_at scene (path ++ name ∷ []))) (composed (local (values_at scene (path ++ name ∷ []))) (flat_matrix_at scene path))) (suc_not_zero (length (ancestors scene path)))
-    ∙ ap (λ b. cond (b || false) (local (values_at scene (path ++ name ∷ []))) (composed (local (values_at scene (path ++ name ∷ []))) (flat_matrix_at scene path))) unreset
+    ∙ ap (λ b. cond (is_reset (values_at scene (path ++ name ∷ [])) || b) (local (values_at scene (path ++ name ∷ []))) (compose (local (values_at scene (path ++ name ∷ []))) (flat_matrix_at scene path))) (suc_not_zero (length (ancestors scene path)))
+    ∙ ap (λ b. cond (b || false) (local (values_at scene (path ++ name ∷ []))) (compose (local (values_at scene (path ++ name ∷ []))) (flat_matrix_at scene path))) unreset
 
 pub matrix_of_child : MatrixOfChild
 matrix_of_child scene path name own above some unreset here there =
-    composes scene path name some unreset ∙ ap (λ (m : Option Rows). composed m (flat_matrix_at scene path)) here ∙ ap (composed (Some own)) there
+    composes scene path name some unreset ∙ ap (λ (m : Option Rows). compose m (flat_matrix_at scene path)) here ∙ ap (compose (Some own)) there
 
 pub matrix_out_of_range : MatrixOutOfRange
 matrix_out_of_range scene path name some unreset there =
-    composes scene path name some unreset ∙ ap (composed (local (values_at scene (path ++ name ∷ [])))) there ∙ out (local (values_at scene (path ++ name ∷ [])))
+    composes scene path name some unreset ∙ ap (compose (local (values_at scene (path ++ name ∷ [])))) there ∙ out (local (values_at scene (path ++ name ∷ [])))
   where
-    out : (m : Option Rows) → composed m None ≡ None
+    out : (m : Option Rows) → compose m None ≡ None
     out None = refl
     out (Some rows) = refl
 
@@ -56,7 +56,7 @@ matrix_of_root scene name = alone (is_reset (values_at scene (name ∷ []))) (lo
 
 pub matrix_of_reset : MatrixOfReset
 matrix_of_reset scene path reset =
-    ap (λ b. cond (b || length (ancestors scene path) == 0) (local (values_at scene path)) (composed (local (values_at scene path)) (flat_matrix (ancestors scene path)))) reset
+    ap (λ b. cond (b || length (ancestors scene path) == 0) (local (values_at scene path)) (compose (local (values_at scene path)) (flat_matrix (ancestors scene path)))) reset
 
 -- what hides a path hides what is below it
 hidden_below : (scene : Scene) (path rest : List (List ℕ)) → path ≢ [] → is_visible (lineage scene path) ≡ false → is_visible (lineage scene (path ++ rest)) ≡ false

@@ -1,6 +1,6 @@
 pub mod Placing
 pub mod Building
 pub mod Walking
-pub mod Shaping
+pub mod Conforming
 pub mod Inherits
-pub mod FlatShapes
+pub mod FlatSchema

@@ -10,7 +10,7 @@ use Rattle.hd_value.specs.Maps.{Map, IsFree, set_at}
 use Rattle.hd_value.proofs.Prefixes.{same_itself}
 use Rattle.hd_value.proofs.Getting.{eqk, eqk_same}
 use Rattle.hd_value.proofs.Setting.{get-set_at}
-use Rattle.hd_flattening.specs.Places.{flat_places, is_among, StandsIn}
+use Rattle.hd_flattening.specs.FlatLocators.{flat_locators, is_among, IsWithin}
 
 -- whether two locators are one
 abbrev pub same : List (List ℕ) → List (List ℕ) → Bool
@@ -43,10 +43,10 @@ each_among test (p ∷ places) at all among =
     halves false b e = (e, true_is_not (sym e))
 
 -- a place is no prefix of another one
-pub places_apart : (front at : List (List ℕ)) → is_among flat_places front ≡ true → is_among flat_places at ≡ true → is_prefix front at ≡ true → front ≡ at
-places_apart front at among_front among_at prefix =
-    let apart : (list_all (λ q. not (is_prefix front q) || same front q) flat_places) ≡ true = each_among (λ p. list_all (λ q. not (is_prefix p q) || same p q) flat_places) flat_places front refl among_front in
-    let here : (not (is_prefix front at) || same front at) ≡ true = each_among (λ q. not (is_prefix front q) || same front q) flat_places at apart among_at in
+pub locators_apart : (front at : List (List ℕ)) → is_among flat_locators front ≡ true → is_among flat_locators at ≡ true → is_prefix front at ≡ true → front ≡ at
+locators_apart front at among_front among_at prefix =
+    let apart : (list_all (λ q. not (is_prefix front q) || same front q) flat_locators) ≡ true = each_among (λ p. list_all (λ q. not (is_prefix p q) || same p q) flat_locators) flat_locators front refl among_front in
+    let here : (not (is_prefix front at) || same front at) ≡ true = each_among (λ q. not (is_prefix front q) || same front q) flat_locators at apart among_at in
     names_same front at (subst (λ b. (not b || same front at) ≡ true) prefix here)
 
 is_prefix-append : (front rest : List (List ℕ)) → is_prefix front (front ++ rest) ≡ true
@@ -58,30 +58,30 @@ nothing_left [] rest e = sym e
 nothing_left (x ∷ front) rest e = nothing_left front rest cc
 
 -- no value stands above a place
-pub place_free : (m : Map) (at : List (List ℕ)) → StandsIn flat_places m → is_among flat_places at ≡ true → IsFree m at
-place_free m at stands among front rest is some =
+pub locator_free : (m : Map) (at : List (List ℕ)) → IsWithin flat_locators m → is_among flat_locators at ≡ true → IsFree m at
+locator_free m at stands among front rest is some =
     elim (get m front) as (λ o. get m front ≡ o → o ≡ None) [
       | None ↦ λ _. refl
       | Some v ↦ λ there.
-          let standing : is_among flat_places front ≡ true = stands front (λ none. some_is_not v (sym there ∙ none)) in
+          let standing : is_among flat_locators front ≡ true = stands front (λ none. some_is_not v (sym there ∙ none)) in
           let above : is_prefix front at ≡ true = ap (is_prefix front) is ∙ is_prefix-append front rest in
-          let one : front ≡ at = places_apart front at standing among above in
+          let one : front ≡ at = locators_apart front at standing among above in
           absurd (some (nothing_left front rest (one ∙ is)))
     ] refl
 
 -- a value at a place leaves each value at a place
-pub set_stands : (m : Map) (at : List (List ℕ)) (v : Value) → StandsIn flat_places m → is_among flat_places at ≡ true → StandsIn flat_places (set_at m at v)
-set_stands m at v stands among q some =
-    elim (eqk q at) as (λ b. eqk q at ≡ b → cond b (Some v) (cond (not (is_prefix at q)) (get m q) None) ≢ None → is_among flat_places q ≡ true) [
-      | true ↦ λ here _. ap (is_among flat_places) (eqk_same q at here) ∙ among
-      | false ↦ λ _. elim (is_prefix at q) as (λ b. cond (not b) (get m q) None ≢ None → is_among flat_places q ≡ true) [
+pub set_within : (m : Map) (at : List (List ℕ)) (v : Value) → IsWithin flat_locators m → is_among flat_locators at ≡ true → IsWithin flat_locators (set_at m at v)
+set_within m at v stands among q some =
+    elim (eqk q at) as (λ b. eqk q at ≡ b → cond b (Some v) (cond (not (is_prefix at q)) (get m q) None) ≢ None → is_among flat_locators q ≡ true) [
+      | true ↦ λ here _. ap (is_among flat_locators) (eqk_same q at here) ∙ among
+      | false ↦ λ _. elim (is_prefix at q) as (λ b. cond (not b) (get m q) None ≢ None → is_among flat_locators q ≡ true) [
         | true ↦ λ no. absurd (no refl)
         | false ↦ λ there. stands q there
       ]
     ] refl (λ none. some (get-set_at m at v q ∙ none))
 
 -- the same after a call that put a value, or was refused
-pub put_stands : {E : Type 0} (r : Result (Unit {0}) E) (old new : Map) (at : List (List ℕ)) (v : Value) → StandsIn flat_places old → is_among flat_places at ≡ true
-    → OnOk r (new ≡ set_at old at v) → OnErr r (new ≡ old) → StandsIn flat_places new
-put_stands (Ok u) old new at v stands among put kept = subst (StandsIn flat_places) (sym put) (set_stands old at v stands among)
-put_stands (Err e) old new at v stands among put kept = subst (StandsIn flat_places) (sym kept) stands
+pub put_within : {E : Type 0} (r : Result (Unit {0}) E) (old new : Map) (at : List (List ℕ)) (v : Value) → IsWithin flat_locators old → is_among flat_locators at ≡ true
+    → OnOk r (new ≡ set_at old at v) → OnErr r (new ≡ old) → IsWithin flat_locators new
+put_within (Ok u) old new at v stands among put kept = subst (IsWithin flat_locators) (sym put) (set_within old at v stands among)
+put_within (Err e) old new at v stands among put kept = subst (IsWithin flat_locators) (sym kept) stands

@@ -4,8 +4,8 @@ use Rattle.std.specs.Option.{option_map, option_map_or}
 use Rattle.std.proofs.lemmas.List.{take-take, length-take-le}
 use Rattle.std.specs.FinMap.{get, empty}
 use Rattle.hd_value.specs.Maps.{Map}
-use Rattle.hd_value.specs.Shapes.{is_instanced, IsInstanced}
-use Rattle.hd_scene.specs.Scenes.{Scene, prim_of, children_of, IsShapedBy}
+use Rattle.hd_value.specs.Schema.{is_instanced, IsInstanced}
+use Rattle.hd_scene.specs.Scenes.{Scene, prim_of, children_of, SceneConforms}
 use Rattle.hd_scene.specs.declared.prims.Entry.{Entry}
 use Rattle.hd_scene.specs.declared.prims.Primitive.{Primitive}
 use Rattle.hd_scene.proofs.Children.{AreChildren-children_of, children_of-unique}
@@ -61,11 +61,11 @@ flat_primitive-prim_of scene path = same (get scene path) ∙ ap prim_of (sym (g
     same None = refl
     same (Some e) = refl
 
--- the values of what stands at a path of a shaped scene are shaped
-pub prim_shaped : (scene : Scene) (path : List (List ℕ)) (prim : Primitive) (values : Map) → IsShapedBy is_instanced scene → prim ≡ prim_of (get scene path) → prim.values ≡ Some values → IsInstanced values
-prim_shaped scene path prim values shaped asked there =
-    by (get scene path) (shaped path) (ap (λ (p : Primitive). p.values) (sym asked) ∙ there)
+-- the values at a path of a scene that conforms conform
+pub prim_conforms : (scene : Scene) (path : List (List ℕ)) (prim : Primitive) (values : Map) → SceneConforms is_instanced scene → prim ≡ prim_of (get scene path) → prim.values ≡ Some values → IsInstanced values
+prim_conforms scene path prim values conforms asked there =
+    by (get scene path) (conforms path) (ap (λ (p : Primitive). p.values) (sym asked) ∙ there)
   where
     by : (o : Option Entry) → ((e : Entry) → o ≡ Some e → IsInstanced e.values) → (prim_of o).values ≡ Some values → IsInstanced values
-    by None shape is = some_is_not values (sym is)
-    by (Some e) shape is = let one : e.values ≡ values = cc in subst IsInstanced one (shape e refl)
+    by None fits is = some_is_not values (sym is)
+    by (Some e) fits is = let one : e.values ≡ values = cc in subst IsInstanced one (fits e refl)

@@ -10,8 +10,9 @@ use Rattle.hd_value.specs.Locators.{is_same}
 use Rattle.hd_value.specs.Maps.{Map}
 use Rattle.hd_scene.specs.Scenes.{Scene}
 use Rattle.hd_scene.specs.declared.prims.Entry.{Entry}
-use Rattle.hd_flattening.specs.Values.{token_of, paths_of, colors_of, visibility_at, purpose_at, binding_at, color8_at, display_color_at}
-use Rattle.hd_flattening.specs.Local.{composed, local, is_reset}
+use Rattle.hd_tokens.specs.Locators.{visibility_at, purpose_at, binding_at, color8_at, display_color_at}
+use Rattle.hd_flattening.specs.Values.{token_of, paths_of, colors_of}
+use Rattle.hd_flattening.specs.Local.{compose, local, is_reset}
 
 -- the values of the prim at a path
 abbrev pub values_at : Scene → List (List ℕ) → Map
@@ -32,13 +33,13 @@ nearest own [] = None
 nearest own (prim ∷ above) = option_or (own prim) (nearest own above)
 
 -- whether a prim takes no matrix from above: it is reset, or a root prim
-abbrev pub stands_alone : Map → (above : List Map) → Bool
-stands_alone prim above = is_reset prim || length above == 0
+abbrev pub resets_xform_stack : Map → (above : List Map) → Bool
+resets_xform_stack prim above = is_reset prim || length above == 0
 
 -- the local matrix and then the parent's, and none where either or the product is out of range
 abbrev pub flat_matrix : List Map → Option Rows
 flat_matrix [] = Some identity
-flat_matrix (prim ∷ above) = if stands_alone prim above then local prim else composed (local prim) (flat_matrix above)
+flat_matrix (prim ∷ above) = if resets_xform_stack prim above then local prim else compose (local prim) (flat_matrix above)
 
 abbrev pub is_invisible : Map → Bool
 is_invisible prim = option_map_or (λ word. is_same word (codes "invisible")) (token_of (get prim visibility_at)) false
@@ -66,13 +67,13 @@ abbrev pub flat_binding : List Map → Option (List (List ℕ))
 flat_binding prims = option_and_then first_of (nearest authored_binding prims)
 
 -- the list, or the other one where it is empty
-abbrev pub filled_or : List Rgb → List Rgb → List Rgb
-filled_or [] others = others
-filled_or (c ∷ colors) others = c ∷ colors
+abbrev pub or_if_empty : List Rgb → List Rgb → List Rgb
+or_if_empty [] others = others
+or_if_empty (c ∷ colors) others = c ∷ colors
 
 -- the colours of a prim's own, of which those by bytes come before those for display
 abbrev pub own_colors : Map → List Rgb
-own_colors prim = filled_or (colors_of (get prim color8_at)) (colors_of (get prim display_color_at))
+own_colors prim = or_if_empty (colors_of (get prim color8_at)) (colors_of (get prim display_color_at))
 
 -- the own list, where it has one colour
 abbrev pub single : List Rgb → Option (List Rgb)
@@ -84,4 +85,4 @@ own_single prim = single (own_colors prim)
 -- the own list, or else that of the nearest ancestor whose own list has one colour
 abbrev pub flat_colors : List Map → List Rgb
 flat_colors [] = []
-flat_colors (prim ∷ above) = filled_or (own_colors prim) (unwrap_or (nearest own_single above) [])
+flat_colors (prim ∷ above) = or_if_empty (own_colors prim) (unwrap_or (nearest own_single above) [])

@@ -1,5 +1,5 @@
 -- The scene in which each prim has what it takes from those above it.
-use Rattle.std.specs.Prelude.{ℕ, Bool, not, List, [], ◌∷◌, map, Option, Some, None, codes}
+use Rattle.std.specs.Prelude.{ℕ, Bool, not, List, [], ◌∷◌, map, Option, Some, None}
 use Rattle.std.specs.List.{list_any}
 use Rattle.std.specs.FinMap.{insert, retain_keys, entries, from_entries}
 use Rattle.hd_num.specs.Matrices.{Rows}
@@ -9,16 +9,16 @@ use Rattle.hd_value.specs.Locators.{is_prefix}
 use Rattle.hd_value.specs.Maps.{Map}
 use Rattle.hd_scene.specs.Scenes.{Scene}
 use Rattle.hd_scene.specs.declared.prims.Entry.{Entry}
-use Rattle.hd_flattening.specs.Values.{matrix_at, visibility_at, purpose_at, binding_at, color_at, color8_at, display_color_at}
+use Rattle.hd_tokens.specs.Locators.{xform_at, matrix_at, visibility_at, purpose_at, binding_at, color_at, color8_at, display_color_at}
 use Rattle.hd_flattening.specs.Flat.{ancestors, flat_matrix, is_visible, flat_purpose, flat_binding, flat_colors}
 
 -- in place of what stands at or below these, flattening puts values of its own
-abbrev pub replaced : List (List (List ℕ))
-replaced = (codes "xform" ∷ []) ∷ visibility_at ∷ purpose_at ∷ binding_at ∷ color8_at ∷ display_color_at ∷ []
+abbrev pub replaced_locators : List (List (List ℕ))
+replaced_locators = xform_at ∷ visibility_at ∷ purpose_at ∷ binding_at ∷ color8_at ∷ display_color_at ∷ []
 
 -- whether what stands at the locator passes
 abbrev pub passes : List (List ℕ) → Bool
-passes at = not (list_any (λ place. is_prefix place at) replaced)
+passes at = not (list_any (λ place. is_prefix place at) replaced_locators)
 
 -- a matrix as a value
 abbrev pub matrix_value : Option Rows → Value

@@ -2,8 +2,8 @@
 use Rattle.std.specs.Prelude.{◌≡◌, ◌≢◌, ℕ, true, false, List, [], ◌∷◌, ◌++◌, Option, Some, None}
 use Rattle.hd_num.specs.Matrices.{Rows, product, bounded}
 use Rattle.hd_value.specs.Maps.{Map}
-use Rattle.hd_value.specs.Shapes.{is_instanced, is_flattened}
-use Rattle.hd_scene.specs.Scenes.{Scene, IsClosed, IsShapedBy}
+use Rattle.hd_value.specs.Schema.{is_instanced, is_flattened}
+use Rattle.hd_scene.specs.Scenes.{Scene, IsClosed, SceneConforms}
 use Rattle.hd_flattening.specs.Local.{local, is_reset}
 use Rattle.hd_flattening.specs.Flat.{values_at, ancestors, flat_matrix, is_invisible, is_visible}
 use Rattle.hd_flattening.specs.Flattened.{flattened}
@@ -42,5 +42,5 @@ InvisibleHides = (scene : Scene) (path rest : List (List ℕ)) → path ≢ [] �
 abbrev pub FlattenedIsClosed : Type 0
 FlattenedIsClosed = (scene : Scene) → IsClosed scene → IsClosed (flattened scene)
 
-abbrev pub FlattenedIsShaped : Type 0
-FlattenedIsShaped = (scene : Scene) → IsShapedBy is_instanced scene → IsShapedBy is_flattened (flattened scene)
+abbrev pub FlattenedConforms : Type 0
+FlattenedConforms = (scene : Scene) → SceneConforms is_instanced scene → SceneConforms is_flattened (flattened scene)

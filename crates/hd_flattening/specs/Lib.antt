@@ -5,5 +5,5 @@ pub mod Flat
 pub mod Flattened
 pub mod Scenes
 pub mod Inheriting
-pub mod Places
+pub mod FlatLocators
 pub mod Laws

@@ -8,13 +8,14 @@ use Rattle.hd_num.specs.Matrices.{Rows, identity, product, bounded}
 use Rattle.hd_num.specs.Ops.{op_matrix}
 use Rattle.hd_value.specs.Locators.{is_same}
 use Rattle.hd_value.specs.Maps.{Map}
-use Rattle.hd_flattening.specs.Values.{tokens_of, order_at, reset_at, is_set, op_at}
+use Rattle.hd_tokens.specs.Locators.{order_at, reset_at}
+use Rattle.hd_flattening.specs.Values.{tokens_of, is_set, named_op}
 
 -- one matrix and then another one, and none where either or the product is out of range
-abbrev pub composed : Option Rows → Option Rows → Option Rows
-composed None b = None
-composed (Some a) None = None
-composed (Some a) (Some b) = bounded (product a b)
+abbrev pub compose : Option Rows → Option Rows → Option Rows
+compose None b = None
+compose (Some a) None = None
+compose (Some a) (Some b) = bounded (product a b)
 
 -- the listed entries, in order
 abbrev pub order_of : Map → List (List ℕ)
@@ -26,7 +27,7 @@ listed_name entry = if starts_with nat_eq entry (codes "xformOp:") then Some (dr
 
 -- the op that an entry lists, where it has a value
 abbrev pub listed_op : Map → List ℕ → Option ops.Op
-listed_op prim entry = option_and_then (op_at prim) (listed_name entry)
+listed_op prim entry = option_and_then (named_op prim) (listed_name entry)
 
 -- the matrix of an op; without an op it is the identity
 abbrev pub matrix_of : Option ops.Op → Option Rows
@@ -36,7 +37,7 @@ matrix_of (Some op) = bounded (op_matrix op)
 -- the listed ops, from the last to the first, each multiplied on the right
 abbrev pub ops_product : Map → (entries : List (List ℕ)) → Option Rows
 ops_product prim [] = Some identity
-ops_product prim (entry ∷ entries) = composed (ops_product prim entries) (matrix_of (listed_op prim entry))
+ops_product prim (entry ∷ entries) = compose (ops_product prim entries) (matrix_of (listed_op prim entry))
 
 -- the matrix of the listed ops, and none where it is out of range
 abbrev pub local : Map → Option Rows

@@ -1,8 +1,9 @@
 -- The values of a prim that flattening reads.
-use Rattle.std.specs.Prelude.{ℕ, Bool, false, List, [], ◌∷◌, Option, Some, None, codes}
+use Rattle.std.specs.Prelude.{ℕ, Bool, false, List, [], ◌∷◌, Option, Some, None}
 use Rattle.std.specs.FinMap.{get}
 use Rattle.hd_num.specs.declared.op.Op as ops
 use Rattle.hd_num.specs.declared.vector.Rgb.{Rgb}
+use Rattle.hd_tokens.specs.Locators.{op_at}
 use Rattle.hd_value.specs.declared.value.Value.{Value}
 use Rattle.hd_value.specs.declared.value.Value.TheVariants.{Token, Tokens, Colors, Paths, Op, Flag}
 use Rattle.hd_value.specs.Maps.{Map}
@@ -33,35 +34,6 @@ abbrev pub is_set : Option Value → Bool
 is_set (Some (Flag b)) = b
 is_set _ = false
 
--- where the values stand
-abbrev pub order_at : List (List ℕ)
-order_at = codes "xform" ∷ codes "order" ∷ []
-
-abbrev pub reset_at : List (List ℕ)
-reset_at = codes "xform" ∷ codes "reset" ∷ []
-
-abbrev pub visibility_at : List (List ℕ)
-visibility_at = codes "visibility" ∷ []
-
-abbrev pub purpose_at : List (List ℕ)
-purpose_at = codes "purpose" ∷ []
-
-abbrev pub binding_at : List (List ℕ)
-binding_at = codes "binding" ∷ []
-
-abbrev pub color8_at : List (List ℕ)
-color8_at = codes "primvars" ∷ codes "color8" ∷ []
-
-abbrev pub display_color_at : List (List ℕ)
-display_color_at = codes "primvars" ∷ codes "displayColor" ∷ []
-
--- and where flattening puts others
-abbrev pub matrix_at : List (List ℕ)
-matrix_at = codes "xform" ∷ codes "matrix" ∷ []
-
-abbrev pub color_at : List (List ℕ)
-color_at = codes "primvars" ∷ codes "color" ∷ []
-
 -- the op of a name
-abbrev pub op_at : Map → List ℕ → Option ops.Op
-op_at prim name = op_of (get prim (codes "xform" ∷ codes "ops" ∷ name ∷ []))
+abbrev pub named_op : Map → List ℕ → Option ops.Op
+named_op prim name = op_of (get prim (op_at name))

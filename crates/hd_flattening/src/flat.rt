@@ -1,23 +1,25 @@
 //! The container of a flat prim.
 
-ghost use Rattle.std.specs.Prelude.{◌≡◌, List, map, codes, unwrap_or, IsTrue, IfOk, OnOk};
+ghost use Rattle.std.specs.Prelude.{◌≡◌, List, codes, unwrap_or, IsTrue, IfOk, OnOk};
 ghost use Rattle.std.specs.Option.{option_and_then, ForSome};
+ghost use Rattle.hd_tokens.specs.Tables.{texts};
 ghost use Rattle.hd_value.specs.Maps.{Map};
-ghost use Rattle.hd_value.specs.Shapes.{IsInstanced};
+ghost use Rattle.hd_value.specs.Schema.{IsInstanced};
 ghost use Rattle.hd_flattening.specs.Flat.{first_of};
 ghost use Rattle.hd_flattening.specs.Flattened.{flat_values, matrix_value};
 ghost use Rattle.hd_flattening.specs.Inheriting.{inherited_from, flat_primitive, IsFlat};
-ghost use Rattle.hd_flattening.specs.Places.{binding_value, flat_places, is_among, with_all_passed, with_passed, with_value, StandsIn};
+ghost use Rattle.hd_flattening.specs.FlatLocators.{binding_value, flat_locators, is_among, with_all_passed, with_passed, with_value, IsWithin};
 
 use crate::inherited::Inherited;
-use crate::values::{copied, value_at};
+use crate::values::{copy_of, value_at};
 use hd_num::{List, Matrix};
 use hd_path::{Path, Token};
 use hd_scene::Prim;
-use hd_value::{Container, Locator, Value};
+use hd_tokens::locators;
+use hd_value::{Container, Value};
 use std::alloc::{AllocError, Global};
 
-/// What flattening makes of what stands at a path, where its ancestors give it this.
+/// The flattened prim, given what it inherits.
 pub(crate) fn flat_prim(
     alloc: Global,
     inherited: &Inherited,
@@ -36,7 +38,7 @@ pub(crate) fn flat_prim(
     }
 }
 
-/// What flattening makes of the values of a prim whose ancestors give it this.
+/// The flattened values of a prim, given what it inherits.
 fn flat_values(
     alloc: Global,
     inherited: &Inherited,
@@ -45,27 +47,19 @@ fn flat_values(
     requires { IsInstanced values.now }
     ensures { IfOk result (IsFlat flat_values values.now inherited.now) }
 {
-    let own = inherited.below(alloc, values)?;
-    let colors = inherited.colors(alloc, values)?;
+    let own = inherited.for_children(values)?;
+    let colors = inherited.colors(values)?;
     let mut flat = Container::new();
     let matrix = matrix_value(own.matrix);
-    put(&mut flat, alloc, &["xform", "matrix"], Some(matrix))?;
+    put(&mut flat, alloc, locators::XFORM_MATRIX, Some(matrix))?;
     let visibility = Value::Flag(own.is_visible);
-    put(&mut flat, alloc, &["visibility"], Some(visibility))?;
+    put(&mut flat, alloc, locators::VISIBILITY, Some(visibility))?;
     let purpose = Value::Token(purpose_or_default(alloc, own.purpose)?);
-    put(&mut flat, alloc, &["purpose"], Some(purpose))?;
-    put(
-        &mut flat,
-        alloc,
-        &["binding"],
-        binding_value(alloc, own.binding)?,
-    )?;
-    put(
-        &mut flat,
-        alloc,
-        &["primvars", "color"],
-        Some(Value::Colors(colors)),
-    )?;
+    put(&mut flat, alloc, locators::PURPOSE, Some(purpose))?;
+    let binding = binding_value(alloc, own.binding)?;
+    put(&mut flat, alloc, locators::BINDING, binding)?;
+    let colors = Value::Colors(colors);
+    put(&mut flat, alloc, locators::COLOR, Some(colors))?;
     pass_all(&mut flat, alloc, values)?;
     Ok(flat)
 }
@@ -106,17 +100,17 @@ fn binding_value(alloc: Global, binding: Option<List<Path>>) -> Result<Option<Va
 
 /// Adds what passes of a prim's own values.
 fn pass_all(flat: &mut Container, alloc: Global, values: &Container) -> Result<(), AllocError>
-    requires { StandsIn flat_places flat.old }
+    requires { IsWithin flat_locators flat.old }
     ensures { OnOk result (flat.new ≡ with_all_passed values.now flat.old) }
 {
-    pass(flat, alloc, values, &["primvars", "points"])?;
-    pass(flat, alloc, values, &["mesh", "counts"])?;
-    pass(flat, alloc, values, &["mesh", "indices"])?;
-    pass(flat, alloc, values, &["instancer", "positions"])?;
-    pass(flat, alloc, values, &["instancer", "protoIndices"])?;
-    pass(flat, alloc, values, &["instancer", "prototypes"])?;
-    pass(flat, alloc, values, &["material", "color8"])?;
-    pass(flat, alloc, values, &["instancedBy"])
+    pass(flat, alloc, values, locators::POINTS)?;
+    pass(flat, alloc, values, locators::FACE_VERTEX_COUNTS)?;
+    pass(flat, alloc, values, locators::FACE_VERTEX_INDICES)?;
+    pass(flat, alloc, values, locators::POSITIONS)?;
+    pass(flat, alloc, values, locators::PROTO_INDICES)?;
+    pass(flat, alloc, values, locators::PROTOTYPES)?;
+    pass(flat, alloc, values, locators::MATERIAL_COLOR8)?;
+    pass(flat, alloc, values, locators::INSTANCED_BY)
 }
 
 /// Adds the value at the locator of these tokens, where there is one.
@@ -124,14 +118,14 @@ fn pass(
     flat: &mut Container,
     alloc: Global,
     values: &Container,
-    tokens: &[&str],
+    tokens: &'static [&'static str],
 ) -> Result<(), AllocError>
-    requires place { IsTrue (is_among flat_places (map (λ token. token.now) tokens.now)) }
-    requires stands { StandsIn flat_places flat.old }
-    ensures ok { OnOk result (flat.new ≡ with_passed values.now flat.old (map (λ token. token.now) tokens.now)) }
-    ensures stands { StandsIn flat_places flat.new }
+    requires among { IsTrue (is_among flat_locators (texts tokens.now)) }
+    requires within { IsWithin flat_locators flat.old }
+    ensures ok { OnOk result (flat.new ≡ with_passed values.now flat.old (texts tokens.now)) }
+    ensures within { IsWithin flat_locators flat.new }
 {
-    let value = copied(value_at(alloc, values, tokens)?)?;
+    let value = copy_of(value_at(values, tokens))?;
     put(flat, alloc, tokens, value)
 }
 
@@ -139,16 +133,16 @@ fn pass(
 fn put(
     flat: &mut Container,
     alloc: Global,
-    tokens: &[&str],
+    tokens: &'static [&'static str],
     value: Option<Value>,
 ) -> Result<(), AllocError>
-    requires place { IsTrue (is_among flat_places (map (λ token. token.now) tokens.now)) }
-    requires stands { StandsIn flat_places flat.old }
-    ensures ok { OnOk result (flat.new ≡ with_value flat.old (map (λ token. token.now) tokens.now) value) }
-    ensures stands { StandsIn flat_places flat.new }
+    requires among { IsTrue (is_among flat_locators (texts tokens.now)) }
+    requires within { IsWithin flat_locators flat.old }
+    ensures ok { OnOk result (flat.new ≡ with_value flat.old (texts tokens.now) value) }
+    ensures within { IsWithin flat_locators flat.new }
 {
     match value {
-        Some(value) => flat.set(alloc, &Locator::of(alloc, tokens)?, value),
+        Some(value) => flat.set_at(alloc, tokens, value),
         None => Ok(()),
     }
 }

@@ -3,8 +3,8 @@
 ghost use Rattle.std.specs.Prelude.{◌≡◌, IfOk};
 ghost use Rattle.std.specs.Borrow.{Lends, sem};
 ghost use Rattle.std.specs.FinMap.{get};
-ghost use Rattle.hd_value.specs.Shapes.{is_instanced};
-ghost use Rattle.hd_scene.specs.Scenes.{prim_of, IsShapedBy};
+ghost use Rattle.hd_value.specs.Schema.{is_instanced};
+ghost use Rattle.hd_scene.specs.Scenes.{prim_of, SceneConforms};
 ghost use Rattle.hd_flattening.specs.Flat.{ancestors};
 ghost use Rattle.hd_flattening.specs.Flattened.{flattened};
 ghost use Rattle.hd_flattening.specs.Inheriting.{inherited_from};
@@ -21,8 +21,8 @@ use std::marker::Model;
 /// A filter that gives each prim its flat values in place of those that it reads.
 ///
 /// Of the input it reads `xform`, `visibility`, `purpose`, `binding`, `primvars/color8` and `primvars/displayColor`. In
-/// place of what stands there it gives `xform/matrix` (a matrix from the prim to the world, or `Out`), `visibility` (a
-/// flag), `purpose` (a token), `binding` (one path, absent where there is none) and `primvars/color` (colours, empty
+/// place of what is there it gives `xform/matrix` (a matrix from the prim to the world, or `Out`), `visibility` (a
+/// flag), `purpose` (a token), `binding` (one path, absent where there is none) and `primvars/color` (colors, empty
 /// where there are none). All else passes.
 ///
 /// It is in step where its input is in step, and each value of the input is one that layers author or instancing gives.
@@ -73,7 +73,7 @@ impl<I: SceneIndex> SceneIndex for Flattening<I> {
 
     ghost origin = { λ x. I.origin x.input };
 
-    ghost is_in_step = { λ x. I.is_in_step x.input × IsShapedBy is_instanced (I.scene x.input) };
+    ghost is_in_step = { λ x. I.is_in_step x.input × SceneConforms is_instanced (I.scene x.input) };
 
     ghost pulls = { λ x. x.pulls };
 
@@ -96,7 +96,7 @@ impl<I: SceneIndex> SceneIndex for Flattening<I> {
 /// The prim at a path, flattened. The input is asked once for each prim on the way, from the root prim down.
 fn prim_at<I: SceneIndex>(input: &mut I, alloc: Global, path: &Path) -> Result<Prim, AllocError>
     requires in_step { I.is_in_step input.old }
-    requires shaped { IsShapedBy is_instanced (I.scene input.old) }
+    requires conforms { SceneConforms is_instanced (I.scene input.old) }
     ensures value { IfOk result (λ prim. prim ≡ prim_of (get (flattened (I.scene input.old)) path.now)) }
     ensures in_step { I.is_in_step input.new }
     ensures same_scene { I.scene input.new ≡ I.scene input.old }
@@ -125,5 +125,5 @@ fn inherited_at<I: SceneIndex>(
     let parent = path.parent(alloc)?;
     let above = inherited_at(input, alloc, &parent)?;
     let prim = input.prim(alloc, &parent)?;
-    above.below_prim(alloc, &prim)
+    above.for_children_of(&prim)
 }

@@ -5,13 +5,14 @@ ghost use Rattle.hd_flattening.specs.Flat.{authored_binding, authored_purpose, f
 ghost use Rattle.hd_flattening.specs.Local.{begins_with_reset};
 ghost use Rattle.hd_flattening.specs.Inheriting.{inherited_from, prim_values, IsFlatOf};
 
-use crate::local::{begins_with_reset, composed, ops_product};
+use crate::local::{begins_with_reset, compose, ops_product};
 use crate::values::{colors_of, is_set, paths_of, token_of, tokens_of, value_at};
 use hd_num::{List, Matrix, Rgb};
 use hd_path::{Path, Token};
 use hd_scene::Prim;
+use hd_tokens::locators;
 use hd_value::Container;
-use std::alloc::{AllocError, Global};
+use std::alloc::AllocError;
 
 /// What a prim takes from its ancestors.
 #[derive(Drop)]
@@ -30,7 +31,7 @@ pub(crate) struct Inherited {
     /// The nearest binding that is authored.
     pub binding: Option<List<Path>>,
 
-    /// The nearest list of one colour.
+    /// The nearest list of one color.
     pub color: Option<List<Rgb>>,
 }
 
@@ -50,66 +51,66 @@ impl Inherited {
     }
 
     /// What the children of a prim take, where the prim itself takes this.
-    pub fn below(&self, alloc: Global, values: &Container) -> Result<Inherited, AllocError>
+    pub fn for_children(&self, values: &Container) -> Result<Inherited, AllocError>
         ensures { IfOk result (IsFlatOf inherited_from values.now self.now) }
     {
         Ok(Inherited {
             is_root: false,
-            matrix: self.matrix(alloc, values)?,
-            is_visible: self.is_visible && !is_invisible(alloc, values)?,
-            purpose: self.purpose(alloc, values)?,
-            binding: self.binding(alloc, values)?,
-            color: self.color(alloc, values)?,
+            matrix: self.matrix(values),
+            is_visible: self.is_visible && !is_invisible(values),
+            purpose: self.purpose(values)?,
+            binding: self.binding(values)?,
+            color: self.color(values)?,
         })
     }
 
-    /// The same of what stands at a path, where that may be no prim.
-    pub fn below_prim(&self, alloc: Global, prim: &Prim) -> Result<Inherited, AllocError>
+    /// The same of what is at a path, where that may be no prim.
+    pub fn for_children_of(&self, prim: &Prim) -> Result<Inherited, AllocError>
         ensures { IfOk result (IsFlatOf inherited_from (prim_values prim.now) self.now) }
     {
         match &prim.values {
-            Some(values) => self.below(alloc, values),
-            None => self.below(alloc, &Container::new()),
+            Some(values) => self.for_children(values),
+            None => self.for_children(&Container::new()),
         }
     }
 
-    fn matrix(&self, alloc: Global, values: &Container) -> Result<Option<Matrix>, AllocError>
-        ensures { IfOk result (IsFlatOf flat_matrix values.now self.now) }
+    fn matrix(&self, values: &Container) -> Option<Matrix>
+        ensures { IsFlatOf flat_matrix values.now self.now result }
     {
-        let order = tokens_of(value_at(alloc, values, &["xform", "order"])?);
-        let is_root_of_prototype = is_set(value_at(alloc, values, &["xform", "reset"])?);
-        let local = ops_product(alloc, values, order)?;
-        if stands_alone(order, is_root_of_prototype, self.is_root) {
-            Ok(local)
+        let order = tokens_of(value_at(values, locators::XFORM_OP_ORDER));
+        let is_root_of_prototype = is_set(value_at(values, locators::XFORM_RESET));
+        let local = ops_product(values, order);
+        if resets_xform_stack(order, is_root_of_prototype, self.is_root) {
+            local
         } else {
-            Ok(composed(local, self.matrix))
+            compose(local, self.matrix)
         }
     }
 
-    fn purpose(&self, alloc: Global, values: &Container) -> Result<Option<Token>, AllocError>
+    fn purpose(&self, values: &Container) -> Result<Option<Token>, AllocError>
         ensures { IfOk result (IsFlatOf (nearest authored_purpose) values.now self.now) }
     {
-        let own = token_of(value_at(alloc, values, &["purpose"])?);
+        let own = token_of(value_at(values, locators::PURPOSE));
         match own.or(self.purpose.as_ref()) {
             Some(purpose) => Ok(Some(purpose.copy()?)),
             None => Ok(None),
         }
     }
 
-    fn binding(&self, alloc: Global, values: &Container) -> Result<Option<List<Path>>, AllocError>
+    fn binding(&self, values: &Container) -> Result<Option<List<Path>>, AllocError>
         ensures { IfOk result (IsFlatOf (nearest authored_binding) values.now self.now) }
     {
-        let own = paths_of(value_at(alloc, values, &["binding"])?);
+        let own = paths_of(value_at(values, locators::BINDING));
         match own.or(self.binding.as_ref()) {
             Some(paths) => Ok(Some(paths.copy()?)),
             None => Ok(None),
         }
     }
 
-    fn color(&self, alloc: Global, values: &Container) -> Result<Option<List<Rgb>>, AllocError>
+    fn color(&self, values: &Container) -> Result<Option<List<Rgb>>, AllocError>
         ensures { IfOk result (IsFlatOf (nearest own_single) values.now self.now) }
     {
-        let own = own_colors(alloc, values)?;
+        let own = own_colors(values)?;
         if own.len() == 1 {
             return Ok(Some(own));
         }
@@ -119,11 +120,11 @@ impl Inherited {
         }
     }
 
-    /// The colours of a prim that takes this: its own, or else the nearest list of one colour.
-    pub fn colors(&self, alloc: Global, values: &Container) -> Result<List<Rgb>, AllocError>
+    /// The colors of a prim that takes this: its own, or else the nearest list of one color.
+    pub fn colors(&self, values: &Container) -> Result<List<Rgb>, AllocError>
         ensures { IfOk result (IsFlatOf flat_colors values.now self.now) }
     {
-        let own = own_colors(alloc, values)?;
+        let own = own_colors(values)?;
         if !own.is_empty() {
             return Ok(own);
         }
@@ -135,28 +136,28 @@ impl Inherited {
 }
 
 /// Whether a prim takes no matrix from above.
-fn stands_alone(order: &[Token], is_root_of_prototype: bool, is_root: bool) -> bool
+fn resets_xform_stack(order: &[Token], is_root_of_prototype: bool, is_root: bool) -> bool
     ensures { result ≡ (begins_with_reset order.now || is_root_of_prototype || is_root) }
 {
     begins_with_reset(order) || is_root_of_prototype || is_root
 }
 
-fn is_invisible(alloc: Global, values: &Container) -> Result<bool, AllocError>
-    ensures { IfOk result (λ answer. answer ≡ is_invisible values.now) }
+fn is_invisible(values: &Container) -> bool
+    ensures { result ≡ is_invisible values.now }
 {
-    match token_of(value_at(alloc, values, &["visibility"])?) {
-        Some(visibility) => Ok(visibility.text() == "invisible"),
-        None => Ok(false),
+    match token_of(value_at(values, locators::VISIBILITY)) {
+        Some(visibility) => visibility.text() == "invisible",
+        None => false,
     }
 }
 
-/// The colours of a prim's own, of which those by bytes come before those for display.
-fn own_colors(alloc: Global, values: &Container) -> Result<List<Rgb>, AllocError>
+/// The colors of a prim's own, of which those by bytes come before those for display.
+fn own_colors(values: &Container) -> Result<List<Rgb>, AllocError>
     ensures { IfOk result (λ colors. colors ≡ own_colors values.now) }
 {
-    let colors = colors_of(value_at(alloc, values, &["primvars", "color8"])?)?;
+    let colors = colors_of(value_at(values, locators::COLOR8))?;
     if colors.is_empty() {
-        colors_of(value_at(alloc, values, &["primvars", "displayColor"])?)
+        colors_of(value_at(values, locators::DISPLAY_COLOR))
     } else {
         Ok(colors)
     }

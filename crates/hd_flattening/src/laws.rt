@@ -1,6 +1,6 @@
 //! What holds of every flat scene.
 
-ghost use Rattle.hd_flattening.specs.Laws.{FlattenedIsClosed, FlattenedIsShaped, InvisibleHides, MatrixOfChild, MatrixOfReset, MatrixOfRoot, MatrixOutOfRange};
+ghost use Rattle.hd_flattening.specs.Laws.{FlattenedIsClosed, FlattenedConforms, InvisibleHides, MatrixOfChild, MatrixOfReset, MatrixOfRoot, MatrixOutOfRange};
 
 /// A child is moved by its local matrix and then by its parent's flat one, and is out of range where the parent is. A
 /// root prim and a prim that is reset have their local matrix alone.
@@ -20,5 +20,5 @@ pub fn invisible_hides()
 /// layers author and instancing gives.
 pub fn flattened_is_a_scene()
     ensures closed { FlattenedIsClosed }
-    ensures shaped { FlattenedIsShaped }
+    ensures conforms { FlattenedConforms }
 {}

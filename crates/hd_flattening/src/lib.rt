@@ -10,6 +10,3 @@ mod values;
 
 pub use flattening::Flattening;
 pub use laws::{flattened_is_a_scene, invisible_hides, matrices_compose};
-
-#[cfg(test)]
-mod tests;

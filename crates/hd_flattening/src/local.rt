@@ -1,40 +1,36 @@
 //! The matrix that a prim's own ops make.
 
-ghost use Rattle.std.specs.Prelude.{◌≡◌, IfOk};
-ghost use Rattle.hd_flattening.specs.Local.{begins_with_reset, composed, listed_op, matrix_of, ops_product};
+ghost use Rattle.std.specs.Prelude.{◌≡◌};
+ghost use Rattle.hd_flattening.specs.Local.{begins_with_reset, compose, listed_op, matrix_of, ops_product};
 
 use crate::values::{op_of, value_at};
 use hd_num::{Matrix, Op};
 use hd_path::Token;
+use hd_tokens::{OP_PREFIX, locators};
 use hd_value::Container;
-use std::alloc::{AllocError, Global};
 
 /// The product of the listed ops, from the last to the first, each multiplied on the right, or `None` where it is out
 /// of range.
-pub(crate) fn ops_product(
-    alloc: Global,
-    values: &Container,
-    entries: &[Token],
-) -> Result<Option<Matrix>, AllocError>
-    ensures { IfOk result (λ matrix. matrix ≡ ops_product values.now entries.now) }
+pub(crate) fn ops_product(values: &Container, entries: &[Token]) -> Option<Matrix>
+    ensures { result ≡ ops_product values.now entries.now }
 {
     let mut product = Some(Matrix::identity());
     let mut left = entries.len();
     while left > 0 {
         left -= 1;
-        let op = listed_op(alloc, values, &entries[left])?;
-        product = composed(product, matrix_of(op));
+        let op = listed_op(values, &entries[left]);
+        product = compose(product, matrix_of(op));
     }
-    Ok(product)
+    product
 }
 
 /// The op that an entry of the order lists, where it has a value.
-fn listed_op(alloc: Global, values: &Container, entry: &Token) -> Result<Option<Op>, AllocError>
-    ensures { IfOk result (λ op. op ≡ listed_op values.now entry.now) }
+fn listed_op(values: &Container, entry: &Token) -> Option<Op>
+    ensures { result ≡ listed_op values.now entry.now }
 {
-    match entry.text().strip_prefix("xformOp:") {
-        Some(name) => Ok(op_of(value_at(alloc, values, &["xform", "ops", name])?)),
-        None => Ok(None),
+    match entry.text().strip_prefix(OP_PREFIX) {
+        Some(name) => op_of(value_at(values, &locators::xform_op(name))),
+        None => None,
     }
 }
 
@@ -49,8 +45,8 @@ fn matrix_of(op: Option<Op>) -> Option<Matrix>
 }
 
 /// One matrix and then another one, or `None` where either or the product is out of range.
-pub(crate) fn composed(first: Option<Matrix>, next: Option<Matrix>) -> Option<Matrix>
-    ensures { result ≡ composed first next }
+pub(crate) fn compose(first: Option<Matrix>, next: Option<Matrix>) -> Option<Matrix>
+    ensures { result ≡ compose first next }
 {
     match (first, next) {
         (Some(first), Some(next)) => first.compose(&next),

@@ -1,32 +1,21 @@
 //! The values that flattening reads in a container.
 
-ghost use Rattle.std.specs.Prelude.{◌≡◌, ◌<◌, length, map, IfOk, option_copied};
+ghost use Rattle.std.specs.Prelude.{◌≡◌, ◌<◌, length, IfOk, option_copied};
 ghost use Rattle.std.specs.FinMap.{get};
+ghost use Rattle.hd_tokens.specs.Tables.{texts};
 ghost use Rattle.hd_flattening.specs.Values.{colors_of, is_set, op_of, paths_of, token_of, tokens_of};
 
 use hd_num::{List, Op, Rgb};
 use hd_path::{Path, Token};
-use hd_value::{Container, Locator, Source, Value};
-use std::alloc::{AllocError, Global};
+use hd_value::{Container, Source, Value};
+use std::alloc::AllocError;
 
 /// The value at the locator of these tokens.
-pub(crate) fn value_at<'a>(
-    alloc: Global,
-    values: &'a Container,
-    tokens: &[&str],
-) -> Result<Option<&'a Value>, AllocError>
+pub(crate) fn value_at<'a>(values: &'a Container, tokens: &[&str]) -> Option<&'a Value>
     requires { 0 < length tokens.now }
-    ensures { IfOk result (λ value. option_copied value ≡ get values.now (map (λ token. token.now) tokens.now)) }
+    ensures { option_copied result ≡ get values.now (texts tokens.now) }
 {
-    let at = Locator::of(alloc, tokens)?;
-    Ok(leaf_at(values, &at))
-}
-
-fn leaf_at<'a>(values: &'a Container, at: &Locator) -> Option<&'a Value>
-    requires { 0 < length at.now }
-    ensures { option_copied result ≡ get values.now at.now }
-{
-    match values.get(at) {
+    match values.get_at(tokens) {
         Some(Source::Leaf(value)) => Some(value),
         Some(Source::Inner(_)) => None,
         None => None,
@@ -61,7 +50,7 @@ pub(crate) fn paths_of<'a>(value: Option<&'a Value>) -> Option<&'a List<Path>>
     }
 }
 
-/// The colours of a value, which shares them.
+/// The colors of a value, which shares them.
 pub(crate) fn colors_of(value: Option<&Value>) -> Result<List<Rgb>, AllocError>
     ensures { IfOk result (λ colors. colors ≡ colors_of (option_copied value.entry)) }
 {
@@ -91,8 +80,8 @@ pub(crate) fn is_set(value: Option<&Value>) -> bool
 }
 
 /// An equal value, where there is one.
-pub(crate) fn copied(value: Option<&Value>) -> Result<Option<Value>, AllocError>
-    ensures { IfOk result (λ copied. copied ≡ option_copied value.entry) }
+pub(crate) fn copy_of(value: Option<&Value>) -> Result<Option<Value>, AllocError>
+    ensures { IfOk result (λ copy. copy ≡ option_copied value.entry) }
 {
     match value {
         Some(value) => Ok(Some(value.copy()?)),

@@ -17,6 +17,3 @@ pub use real::{FileRack, FileShelf, OutSink};
 pub use shelf::Shelf;
 pub use sink::Sink;
 pub use writing::{write_file, write_line};
-
-#[cfg(test)]
-mod tests;

@@ -13,16 +13,16 @@ use Rattle.hd_value.specs.Falls.{locators_total, locators_tie}
 use Rattle.hd_value.specs.Locators.{is_prefix, intersects}
 use Rattle.hd_value.specs.LocatorSets.{touches}
 use Rattle.hd_value.specs.Maps.{Map, overlaid_at}
-use Rattle.hd_value.specs.Shapes.{HasShape}
+use Rattle.hd_value.specs.Schema.{Conforms}
 use Rattle.hd_value.proofs.Overlaying.{untouched}
 use Rattle.hd_value.proofs.Prefixes.{same_itself}
 use Rattle.hd_path.specs.Paths.{path_cmp}
-use Rattle.hd_scene.specs.Scenes.{Scene, value_at, IsShapedBy}
+use Rattle.hd_scene.specs.Scenes.{Scene, value_at, SceneConforms}
 use Rattle.hd_scene.specs.declared.prims.Entry.{Entry}
 use Rattle.hd_merging.specs.Merges.{overlaid, first_kind, merged_prim, merged_entry, prims_at, merged}
 use Rattle.hd_merging.specs.MergedScenes.{or_left, or_right, is_equal, get-overlaid, get-merged}
 use Rattle.hd_merging.specs.Laws.{IsUnnested, strongest_value}
-use Rattle.hd_merging.proofs.Shaping.{value_at-merged}
+use Rattle.hd_merging.proofs.Conforming.{value_at-merged}
 use Rattle.hd_merging.proofs.Together.{same_parts, kinds_of, values_of}
 
 true_is_not : true ≡ false → ⊥
@@ -89,7 +89,7 @@ first_kind-first ([] ∷ ks) js = first_kind-first ks js
 first_kind-first ((letter ∷ kind) ∷ ks) js = refl
 
 module _ (may_stand : List (List ℕ) → Value → Bool) (unnested : IsUnnested may_stand) where
-  -- values of the shape at locators that intersect stand at one locator
+  -- values that conform, at locators that intersect, are at one locator
   one_locator : (a b : List (List ℕ)) (v w : Value) → IsTrue (may_stand a v) → IsTrue (may_stand b w) → intersects a b ≡ true → a ≡ b
   one_locator a b v w may_a may_b meets =
       elim (is_prefix a b) as (λ t. is_prefix a b ≡ t → (t || is_prefix b a) ≡ true → a ≡ b) [
@@ -97,26 +97,26 @@ module _ (may_stand : List (List ℕ) → Value → Bool) (unnested : IsUnnested
         | false ↦ λ _ up. sym (unnested b a w v may_b may_a up)
       ] refl meets
 
-  -- overlaid values are of the shape
-  overlaid_shape : (ms : List Map) → AllByRecursion (HasShape may_stand) ms → (at : List (List ℕ)) (v : Value) → overlaid_at ms at ≡ Some v → IsTrue (may_stand at v)
-  overlaid_shape [] shaped at v is = absurd (none_is_not v is)
-  overlaid_shape (m ∷ ms) shaped at v is =
+  -- overlaid values conform
+  overlaid_conforms : (ms : List Map) → AllByRecursion (Conforms may_stand) ms → (at : List (List ℕ)) (v : Value) → overlaid_at ms at ≡ Some v → IsTrue (may_stand at v)
+  overlaid_conforms [] conforms at v is = absurd (none_is_not v is)
+  overlaid_conforms (m ∷ ms) conforms at v is =
       elim (touches (keys m) at) as (λ b. (if b then get m at else overlaid_at ms at) ≡ Some v → IsTrue (may_stand at v)) [
-        | true ↦ λ here. shaped.0 at v here
-        | false ↦ λ later. overlaid_shape ms shaped.1 at v later
+        | true ↦ λ here. conforms.0 at v here
+        | false ↦ λ later. overlaid_conforms ms conforms.1 at v later
       ] is
 
   -- what intersects a value of one of the maps intersects an overlaid one
-  overlaid_touching : (ms : List Map) → AllByRecursion (HasShape may_stand) ms → (at : List (List ℕ)) → list_any (λ m. touches (keys m) at) ms ≡ true
+  overlaid_touching : (ms : List Map) → AllByRecursion (Conforms may_stand) ms → (at : List (List ℕ)) → list_any (λ m. touches (keys m) at) ms ≡ true
       → (k : List (List ℕ)) × (v : Value) × (overlaid_at ms k ≡ Some v) × (intersects k at ≡ true)
-  overlaid_touching [] shaped at h = absurd (true_is_not (sym h))
-  overlaid_touching (m ∷ ms) shaped at h =
+  overlaid_touching [] conforms at h = absurd (true_is_not (sym h))
+  overlaid_touching (m ∷ ms) conforms at h =
       elim (touches (keys m) at) as (λ b. touches (keys m) at ≡ b → (b || list_any (λ n. touches (keys n) at) ms) ≡ true → (k : List (List ℕ)) × (v : Value) × (overlaid_at (m ∷ ms) k ≡ Some v) × (intersects k at ≡ true)) [
         | true ↦ λ near _.
             let t : Touching m at = touching m at near in
             (t.key, t.value, ap (λ b. if b then get m t.key else overlaid_at ms t.key) (touches_itself m t.key t.value t.is) ∙ t.is, t.meets)
         | false ↦ λ far later.
-            let rest = overlaid_touching ms shaped.1 at later in
+            let rest = overlaid_touching ms conforms.1 at later in
             (rest.0, rest.1, kept rest.0 rest.1 rest.2 rest.3 far, rest.3)
       ] refl h
     where
@@ -126,7 +126,7 @@ module _ (may_stand : List (List ℕ) → Value → Bool) (unnested : IsUnnested
             | false ↦ λ _. is
             | true ↦ λ near.
                 let t : Touching m k = touching m k near in
-                let same : t.key ≡ k = one_locator t.key k t.value v (shaped.0 t.key t.value t.is) (overlaid_shape ms shaped.1 k v is) t.meets in
+                let same : t.key ≡ k = one_locator t.key k t.value v (conforms.0 t.key t.value t.is) (overlaid_conforms ms conforms.1 k v is) t.meets in
                 absurd (true_is_not (sym (touches_by m k at t.value (ap (get m) (sym same) ∙ t.is) meets) ∙ far))
           ] refl
 
@@ -139,18 +139,18 @@ module _ (may_stand : List (List ℕ) → Value → Bool) (unnested : IsUnnested
         | false ↦ λ later. or_right (touches (keys m) at) (list_any (λ n. touches (keys n) at) ms) (touching_one ms k at v later meets)
       ] is
 
-  touches-overlaid : (ms : List Map) → AllByRecursion (HasShape may_stand) ms → (at : List (List ℕ)) → touches (keys (overlaid ms)) at ≡ list_any (λ m. touches (keys m) at) ms
-  touches-overlaid ms shaped at = same_answer (touches (keys (overlaid ms)) at) (list_any (λ m. touches (keys m) at) ms)
+  touches-overlaid : (ms : List Map) → AllByRecursion (Conforms may_stand) ms → (at : List (List ℕ)) → touches (keys (overlaid ms)) at ≡ list_any (λ m. touches (keys m) at) ms
+  touches-overlaid ms conforms at = same_answer (touches (keys (overlaid ms)) at) (list_any (λ m. touches (keys m) at) ms)
       (λ near.
       let t : Touching (overlaid ms) at = touching (overlaid ms) at near in
       touching_one ms t.key at t.value (sym (get-overlaid ms t.key) ∙ t.is) t.meets)
       (λ near.
-      let t = overlaid_touching ms shaped at near in
+      let t = overlaid_touching ms conforms at near in
       touches_by (overlaid ms) t.0 at t.1 (get-overlaid ms t.0 ∙ t.2) t.3)
 
   -- a map hides at a locator what weaker ones have only where it has a value there itself
-  overlaid-strongest : (m : Map) (ms : List Map) → HasShape may_stand m → AllByRecursion (HasShape may_stand) ms → (at : List (List ℕ)) → overlaid_at (m ∷ ms) at ≡ option_or (get m at) (overlaid_at ms at)
-  overlaid-strongest m ms shaped others at =
+  overlaid-strongest : (m : Map) (ms : List Map) → Conforms may_stand m → AllByRecursion (Conforms may_stand) ms → (at : List (List ℕ)) → overlaid_at (m ∷ ms) at ≡ option_or (get m at) (overlaid_at ms at)
+  overlaid-strongest m ms conforms others at =
       elim (touches (keys m) at) as (λ b. touches (keys m) at ≡ b → (if b then get m at else overlaid_at ms at) ≡ option_or (get m at) (overlaid_at ms at)) [
         | false ↦ λ far. ap (λ (o : Option Value). option_or o (overlaid_at ms at)) (sym (untouched m at far))
         | true ↦ λ near. elim (get m at) as (λ (o : Option Value). get m at ≡ o → o ≡ option_or o (overlaid_at ms at)) [
@@ -159,7 +159,7 @@ module _ (may_stand : List (List ℕ) → Value → Bool) (unnested : IsUnnested
             | None ↦ λ _. refl
             | Some v ↦ λ later.
                 let t : Touching m at = touching m at near in
-                let same : t.key ≡ at = one_locator t.key at t.value v (shaped t.key t.value t.is) (overlaid_shape ms others at v later) t.meets in
+                let same : t.key ≡ at = one_locator t.key at t.value v (conforms t.key t.value t.is) (overlaid_conforms ms others at v later) t.meets in
                 absurd (none_is_not t.value (sym hidden ∙ ap (get m) (sym same) ∙ t.is))
           ] refl
         ] refl
@@ -174,55 +174,55 @@ module _ (may_stand : List (List ℕ) → Value → Bool) (unnested : IsUnnested
       ]
 
   -- the stronger containers may be overlaid first
-  overlaid-first : (ms ns : List Map) → AllByRecursion (HasShape may_stand) ms → overlaid (overlaid ms ∷ ns) ≡ overlaid (ms ++ ns)
-  overlaid-first ms ns shaped = same_map locators_total locators_tie (overlaid (overlaid ms ∷ ns)) (overlaid (ms ++ ns)) (λ at.
+  overlaid-first : (ms ns : List Map) → AllByRecursion (Conforms may_stand) ms → overlaid (overlaid ms ∷ ns) ≡ overlaid (ms ++ ns)
+  overlaid-first ms ns conforms = same_map locators_total locators_tie (overlaid (overlaid ms ∷ ns)) (overlaid (ms ++ ns)) (λ at.
       get-overlaid (overlaid ms ∷ ns) at
-      ∙ ap (λ b. if b then get (overlaid ms) at else overlaid_at ns at) (touches-overlaid ms shaped at)
+      ∙ ap (λ b. if b then get (overlaid ms) at else overlaid_at ns at) (touches-overlaid ms conforms at)
       ∙ ap (λ (o : Option Value). if list_any (λ m. touches (keys m) at) ms then o else overlaid_at ns at) (get-overlaid ms at)
       ∙ sym (overlaid_at-append ms ns at)
       ∙ sym (get-overlaid (ms ++ ns) at))
 
-  merged_prim-first : (es fs : List Entry) → AllByRecursion (HasShape may_stand) (values_of es) → merged_prim (merged_prim es ∷ fs) ≡ merged_prim (es ++ fs)
-  merged_prim-first es fs shaped =
+  merged_prim-first : (es fs : List Entry) → AllByRecursion (Conforms may_stand) (values_of es) → merged_prim (merged_prim es ∷ fs) ≡ merged_prim (es ++ fs)
+  merged_prim-first es fs conforms =
       same_parts (first_kind (first_kind (kinds_of es) ∷ kinds_of fs)) (first_kind (kinds_of (es ++ fs))) (overlaid (overlaid (values_of es) ∷ values_of fs)) (overlaid (values_of (es ++ fs)))
       (first_kind-first (kinds_of es) (kinds_of fs) ∙ ap first_kind (sym (map-append (λ (e : Entry). e.kind) es fs)))
-      (overlaid-first (values_of es) (values_of fs) shaped ∙ ap overlaid (sym (map-append (λ (e : Entry). e.values) es fs)))
+      (overlaid-first (values_of es) (values_of fs) conforms ∙ ap overlaid (sym (map-append (λ (e : Entry). e.values) es fs)))
 
-  merged_entry-first : (es fs : List Entry) → AllByRecursion (HasShape may_stand) (values_of es) → merged_entry (cons_option (merged_entry es) fs) ≡ merged_entry (es ++ fs)
-  merged_entry-first [] fs shaped = refl
-  merged_entry-first (e ∷ es) fs shaped = ap (λ (d : Entry). Some d) (merged_prim-first (e ∷ es) fs shaped)
+  merged_entry-first : (es fs : List Entry) → AllByRecursion (Conforms may_stand) (values_of es) → merged_entry (cons_option (merged_entry es) fs) ≡ merged_entry (es ++ fs)
+  merged_entry-first [] fs conforms = refl
+  merged_entry-first (e ∷ es) fs conforms = ap (λ (d : Entry). Some d) (merged_prim-first (e ∷ es) fs conforms)
 
-  prims_shaped : (ss : List Scene) → All (IsShapedBy may_stand) ss → (path : List (List ℕ)) → AllByRecursion (HasShape may_stand) (values_of (prims_at ss path))
-  prims_shaped [] all path = tt
-  prims_shaped (s ∷ ss) all path =
-      let rest = prims_shaped ss (λ k d l. all (suc k) d (omega arith)) path in
-      elim (get s path) as (λ (o : Option Entry). get s path ≡ o → AllByRecursion (HasShape may_stand) (values_of (cons_option o (prims_at ss path)))) [
+  prims_conform : (ss : List Scene) → All (SceneConforms may_stand) ss → (path : List (List ℕ)) → AllByRecursion (Conforms may_stand) (values_of (prims_at ss path))
+  prims_conform [] all path = tt
+  prims_conform (s ∷ ss) all path =
+      let rest = prims_conform ss (λ k d l. all (suc k) d (omega arith)) path in
+      elim (get s path) as (λ (o : Option Entry). get s path ≡ o → AllByRecursion (Conforms may_stand) (values_of (cons_option o (prims_at ss path)))) [
         | None ↦ λ _. rest
         | Some e ↦ λ there. (all 0 s (omega arith) path e there, rest)
       ] refl
 
   -- what the prims at a path have together at a locator
-  strongest_at : (ss : List Scene) → All (IsShapedBy may_stand) ss → (path at : List (List ℕ)) → overlaid_at (values_of (prims_at ss path)) at ≡ strongest_value ss path at
+  strongest_at : (ss : List Scene) → All (SceneConforms may_stand) ss → (path at : List (List ℕ)) → overlaid_at (values_of (prims_at ss path)) at ≡ strongest_value ss path at
   strongest_at [] all path at = refl
   strongest_at (s ∷ ss) all path at =
-      let further : All (IsShapedBy may_stand) ss = λ k d l. all (suc k) d (omega arith) in
+      let further : All (SceneConforms may_stand) ss = λ k d l. all (suc k) d (omega arith) in
       let rest : overlaid_at (values_of (prims_at ss path)) at ≡ strongest_value ss path at = strongest_at ss further path at in
       elim (get s path) as (λ (o : Option Entry). get s path ≡ o → overlaid_at (values_of (cons_option o (prims_at ss path))) at ≡ option_or (option_and_then (λ (e : Entry). get e.values at) o) (strongest_value ss path at)) [
         | None ↦ λ _. rest
         | Some e ↦ λ there.
-            overlaid-strongest e.values (values_of (prims_at ss path)) (all 0 s (omega arith) path e there) (prims_shaped ss further path) at
+            overlaid-strongest e.values (values_of (prims_at ss path)) (all 0 s (omega arith) path e there) (prims_conform ss further path) at
             ∙ ap (option_or (get e.values at)) rest
       ] refl
 
 -- each value comes from the strongest scene that has one at its locator, where no value stands above another one
-pub value_at-strongest : (may_stand : List (List ℕ) → Value → Bool) (ss : List Scene) → IsUnnested may_stand → All (IsShapedBy may_stand) ss → (path at : List (List ℕ)) → value_at (merged ss) path at ≡ strongest_value ss path at
+pub value_at-strongest : (may_stand : List (List ℕ) → Value → Bool) (ss : List Scene) → IsUnnested may_stand → All (SceneConforms may_stand) ss → (path at : List (List ℕ)) → value_at (merged ss) path at ≡ strongest_value ss path at
 value_at-strongest may_stand ss unnested all path at = value_at-merged ss path at ∙ strongest_at may_stand unnested ss all path at
 
 -- the stronger scenes may be merged first where no value of theirs stands above another one
-pub merged-first : (may_stand : List (List ℕ) → Value → Bool) (ss ts : List Scene) → IsUnnested may_stand → All (IsShapedBy may_stand) ss → merged (merged ss ∷ ts) ≡ merged (ss ++ ts)
+pub merged-first : (may_stand : List (List ℕ) → Value → Bool) (ss ts : List Scene) → IsUnnested may_stand → All (SceneConforms may_stand) ss → merged (merged ss ∷ ts) ≡ merged (ss ++ ts)
 merged-first may_stand ss ts unnested all = same_map locators_total locators_tie (merged (merged ss ∷ ts)) (merged (ss ++ ts)) (λ path.
     get-merged (merged ss ∷ ts) path
     ∙ ap (λ (o : Option Entry). merged_entry (cons_option o (prims_at ts path))) (get-merged ss path)
-    ∙ merged_entry-first may_stand unnested (prims_at ss path) (prims_at ts path) (prims_shaped may_stand unnested ss all path)
+    ∙ merged_entry-first may_stand unnested (prims_at ss path) (prims_at ts path) (prims_conform may_stand unnested ss all path)
     ∙ ap merged_entry (sym (filter_map-append (λ (s : Scene). get s path) ss ts))
     ∙ sym (get-merged (ss ++ ts) path))

@@ -1,5 +1,5 @@
 pub mod Together
-pub mod Shaping
+pub mod Conforming
 pub mod Apart
 pub mod Places
 pub mod Naming

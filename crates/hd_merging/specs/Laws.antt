@@ -6,7 +6,7 @@ use Rattle.std.specs.FinMap.{get}
 use Rattle.hd_value.specs.declared.value.Value.{Value}
 use Rattle.hd_value.specs.Locators.{is_prefix}
 use Rattle.hd_value.specs.Maps.{overlaid_at}
-use Rattle.hd_scene.specs.Scenes.{Scene, value_at, IsClosed, IsShapedBy}
+use Rattle.hd_scene.specs.Scenes.{Scene, value_at, IsClosed, SceneConforms}
 use Rattle.hd_merging.specs.Merges.{merged, merged_entry, prims_at}
 
 -- what the merged scene has at a path is what the prims of the scenes at that path are together
@@ -29,7 +29,7 @@ MergesOne = (scene : Scene) → merged (scene ∷ []) ≡ scene
 abbrev pub MergesWeakerFirst : Type 0
 MergesWeakerFirst = (stronger weaker : List Scene) → merged (stronger ++ merged weaker ∷ []) ≡ merged (stronger ++ weaker)
 
--- no value of the shape may stand above another one
+-- no value that conforms may be above another one
 abbrev pub IsUnnested : (List (List ℕ) → Value → Bool) → Type 0
 IsUnnested may_stand = (a b : List (List ℕ)) (v w : Value) → IsTrue (may_stand a v) → IsTrue (may_stand b w) → IsTrue (is_prefix a b) → a ≡ b
 
@@ -38,19 +38,19 @@ abbrev pub strongest_value : List Scene → (path at : List (List ℕ)) → Opti
 strongest_value [] path at = None
 strongest_value (s ∷ ss) path at = option_or (value_at s path at) (strongest_value ss path at)
 
--- where the values are of such a shape, each comes from the strongest scene that has one at its locator
+-- where the values conform to such a schema, each comes from the strongest scene that has one at its locator
 abbrev pub MergesStrongest : Type 0
-MergesStrongest = (may_stand : List (List ℕ) → Value → Bool) (scenes : List Scene) → IsUnnested may_stand → All (IsShapedBy may_stand) scenes → (path at : List (List ℕ)) → value_at (merged scenes) path at ≡ strongest_value scenes path at
+MergesStrongest = (may_stand : List (List ℕ) → Value → Bool) (scenes : List Scene) → IsUnnested may_stand → All (SceneConforms may_stand) scenes → (path at : List (List ℕ)) → value_at (merged scenes) path at ≡ strongest_value scenes path at
 
--- the stronger ones may be merged first where their values are of such a shape. Else a value that is hidden in the merged
+-- the stronger ones may be merged first where their values conform to such a schema. Else a value that is hidden in the merged
 -- stronger scenes no longer hides those of weaker scenes that it intersects
 abbrev pub MergesStrongerFirst : Type 0
-MergesStrongerFirst = (may_stand : List (List ℕ) → Value → Bool) (stronger weaker : List Scene) → IsUnnested may_stand → All (IsShapedBy may_stand) stronger → merged (merged stronger ∷ weaker) ≡ merged (stronger ++ weaker)
+MergesStrongerFirst = (may_stand : List (List ℕ) → Value → Bool) (stronger weaker : List Scene) → IsUnnested may_stand → All (SceneConforms may_stand) stronger → merged (merged stronger ∷ weaker) ≡ merged (stronger ++ weaker)
 
 -- closed scenes are merged into a closed one
 abbrev pub MergesClosed : Type 0
 MergesClosed = (scenes : List Scene) → All IsClosed scenes → IsClosed (merged scenes)
 
--- where each scene has values of a shape alone, the merged one has
-abbrev pub MergesShaped : Type 0
-MergesShaped = (may_stand : List (List ℕ) → Value → Bool) (scenes : List Scene) → All (IsShapedBy may_stand) scenes → IsShapedBy may_stand (merged scenes)
+-- where each scene conforms, the merged one does
+abbrev pub MergedConforms : Type 0
+MergedConforms = (may_stand : List (List ℕ) → Value → Bool) (scenes : List Scene) → All (SceneConforms may_stand) scenes → SceneConforms may_stand (merged scenes)

@@ -1,6 +1,6 @@
 //! What holds of every merged scene.
 
-ghost use Rattle.hd_merging.specs.Laws.{MergesPathByPath, MergesAllPaths, MergesValues, MergesStrongest, MergesOne, MergesWeakerFirst, MergesStrongerFirst, MergesClosed, MergesShaped};
+ghost use Rattle.hd_merging.specs.Laws.{MergesPathByPath, MergesAllPaths, MergesValues, MergesStrongest, MergesOne, MergesWeakerFirst, MergesStrongerFirst, MergesClosed, MergedConforms};
 
 /// A path is in the merged scene where one of the scenes has it, with the first kind that is not empty, and with the
 /// values of which no earlier one intersects the locator. Where no value of the scenes stands above another one, each comes
@@ -20,8 +20,8 @@ pub fn merging_is_associative()
     ensures stronger_first { MergesStrongerFirst }
 {}
 
-/// Merged scenes are closed where each is, and have values of a shape where each has.
+/// Merged scenes are closed where each is, and conform to a schema where each does.
 pub fn merging_keeps_form()
     ensures closed { MergesClosed }
-    ensures shaped { MergesShaped }
+    ensures conforms { MergedConforms }
 {}

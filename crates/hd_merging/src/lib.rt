@@ -8,6 +8,3 @@ mod prims;
 
 pub use laws::{merging_is_associative, merging_is_path_by_path, merging_keeps_form};
 pub use merging::Merging;
-
-#[cfg(test)]
-mod tests;

@@ -13,6 +13,3 @@ pub use list::List;
 pub use matrix::Matrix;
 pub use op::Op;
 pub use vector::{Rgb, Vec3};
-
-#[cfg(test)]
-mod tests;

@@ -24,15 +24,15 @@ abbrev pub AllPlain : List (List ℕ) → Type 0
 AllPlain [] = Unit {0}
 AllPlain (name ∷ names) = Plain name × AllPlain names
 
-first_of_and : (x y : Bool) → (x && y) ≡ true → x ≡ true
+pub first_of_and : (x y : Bool) → (x && y) ≡ true → x ≡ true
 first_of_and true y h = refl
 first_of_and false y h = absurd (false≢true h)
 
-second_of_and : (x y : Bool) → (x && y) ≡ true → y ≡ true
+pub second_of_and : (x y : Bool) → (x && y) ≡ true → y ≡ true
 second_of_and true y h = h
 second_of_and false y h = absurd (false≢true h)
 
-letter_is_word : (b : ℕ) → is_letter b ≡ true → is_word b ≡ true
+pub letter_is_word : (b : ℕ) → is_letter b ≡ true → is_word b ≡ true
 letter_is_word b h = grind (arith, nat_tests)
 
 pub words_plain : (bs : List ℕ) → list_all is_word bs ≡ true → Plain bs

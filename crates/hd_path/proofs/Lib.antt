@@ -5,3 +5,4 @@ pub mod Spelling
 pub mod Orders
 pub mod Scanning
 pub mod Building
+pub mod FaultPlaces

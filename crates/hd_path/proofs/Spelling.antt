@@ -69,7 +69,7 @@ lengths len before size w x y z le shallow =
     let d : size ≤ len = grind (arith, nat_tests) in
     (omega arith, omega arith, omega arith, b)
 
-name_at-Ok : (place before : ℕ) (piece name : List ℕ) → before ≤ 32 → name_at place before piece ≡ Ok name → (piece ≡ name) × IsName piece × (before < 32)
+pub name_at-Ok : (place before : ℕ) (piece name : List ℕ) → before ≤ 32 → name_at place before piece ≡ Ok name → (piece ≡ name) × IsName piece × (before < 32)
 name_at-Ok place before piece name shallow h =
     let p = passed (identifier_len piece == 0) (before == 32) (nat_lt 64 (identifier_len piece)) (nat_lt (identifier_len piece) (length piece)) _ _ _ _ piece name h in
     let l = lengths (identifier_len piece) before (length piece) p.0 p.1 p.2 p.3 (identifier_len-le piece) shallow in

@@ -2,6 +2,10 @@
 use Rattle.std.specs.Prelude.{◌≡◌, ℕ, ◌≤◌, Bool, true, false, ◌&&◌, ◌||◌, ◌==◌, nat_le, if◌then◌else◌, List, [], ◌∷◌, length}
 use Rattle.std.specs.List.{list_all, prefix_len}
 
+-- a name, or any text, is the list of its bytes
+abbrev pub Name : Type 0
+Name = List ℕ
+
 -- an ASCII letter, or an underscore
 abbrev pub is_letter : ℕ → Bool
 is_letter b = (nat_le 65 b && nat_le b 90) || (nat_le 97 b && nat_le b 122) || b == 95
@@ -13,7 +17,7 @@ abbrev pub is_word : ℕ → Bool
 is_word b = is_letter b || is_digit b
 
 -- a letter, and behind it letters and digits
-abbrev pub is_identifier : List ℕ → Bool
+abbrev pub is_identifier : Name → Bool
 is_identifier [] = false
 is_identifier (first ∷ rest) = is_letter first && list_all is_word rest
 
@@ -23,6 +27,6 @@ identifier_len [] = 0
 identifier_len (first ∷ rest) = if is_letter first then prefix_len is_word (first ∷ rest) else 0
 
 -- an identifier of at most 64 bytes
-pub record IsName (name : List ℕ) : Type 0 where
+pub record IsName (name : Name) : Type 0 where
   pub identifier : is_identifier name ≡ true
   pub short : length name ≤ 64

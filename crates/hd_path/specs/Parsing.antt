@@ -3,7 +3,8 @@ use Rattle.std.specs.Prelude.{ℕ, ◌+◌, Bool, ◌==◌, nat_lt, if◌then◌
 use Rattle.std.specs.List.{slice_split}
 use Rattle.hd_path.specs.declared.fault.PathFault.{PathFault}
 use Rattle.hd_path.specs.declared.fault.PathFault.TheVariants.{Syntax, TooDeep, NameTooLong}
-use Rattle.hd_path.specs.Names.{identifier_len}
+use Rattle.hd_path.specs.Names.{Name, identifier_len}
+use Rattle.hd_path.specs.Paths.{Path}
 
 abbrev pub is_slash : ℕ → Bool
 is_slash b = b == 47
@@ -13,7 +14,7 @@ abbrev pub pieces : List ℕ → List (List ℕ)
 pieces text = slice_split is_slash text
 
 -- one piece as a name, where it begins at this place behind so many names
-abbrev pub name_at : ℕ → ℕ → List ℕ → Result (List ℕ) PathFault
+abbrev pub name_at : ℕ → ℕ → List ℕ → Result Name PathFault
 name_at place before piece =
     let len = identifier_len piece in
     if len == 0 then Err (Syntax place)
@@ -23,18 +24,18 @@ name_at place before piece =
     else Ok piece)))
 
 -- a name before others, where the first fault decides
-abbrev pub before_names : Result (List ℕ) PathFault → Result (List (List ℕ)) PathFault → Result (List (List ℕ)) PathFault
+abbrev pub before_names : Result Name PathFault → Result Path PathFault → Result Path PathFault
 before_names (Err fault) rest = Err fault
 before_names (Ok name) (Err fault) = Err fault
 before_names (Ok name) (Ok names) = Ok (name ∷ names)
 
 -- the pieces as names, where the first begins at this place behind so many names
-abbrev pub names_at : ℕ → ℕ → List (List ℕ) → Result (List (List ℕ)) PathFault
+abbrev pub names_at : ℕ → ℕ → List (List ℕ) → Result Path PathFault
 names_at place before [] = Ok []
 names_at place before (piece ∷ rest) = before_names (name_at place before piece) (names_at (place + length piece + 1) (before + 1) rest)
 
 -- the path that a text spells: `/`, or names that each stand behind a slash
-abbrev pub parsed : List ℕ → Result (List (List ℕ)) PathFault
+abbrev pub parsed : List ℕ → Result Path PathFault
 parsed [] = Err (Syntax 0)
 parsed (first ∷ []) = if is_slash first then Ok [] else Err (Syntax 0)
 parsed (first ∷ second ∷ rest) = if is_slash first then names_at 1 0 (pieces (second ∷ rest)) else Err (Syntax 0)

@@ -4,7 +4,7 @@ use Rattle.std.specs.declared.sync.ArcStr.{ArcStr}
 use Rattle.std.specs.declared.alloc.Global.{Global}
 use Rattle.std.specs.Arc.{arc_str_bytes}
 use Rattle.hd_path.specs.Parsing.{pieces}
-use Rattle.hd_path.specs.Paths.{slashed, IsPath}
+use Rattle.hd_path.specs.Paths.{Path, slashed, IsPath}
 
 -- the text that is held, where nothing is the empty one
 abbrev pub held_text : Option (ArcStr Global) → List ℕ
@@ -12,7 +12,7 @@ held_text None = []
 held_text (Some text) = arc_str_bytes text
 
 -- the names of a text in which each stands behind a slash
-abbrev pub names_in : List ℕ → List (List ℕ)
+abbrev pub names_in : List ℕ → Path
 names_in [] = []
 names_in (slash ∷ rest) = pieces rest
 

@@ -9,7 +9,7 @@ mod path;
 mod token;
 
 pub use fault::PathFault;
-pub use laws::{order_is_that_of_texts, text_is_one_to_one};
+pub use laws::{fault_is_where_no_path_goes_on, order_is_that_of_texts, text_is_one_to_one};
 pub use names::{identifier_len, is_letter, is_word, word_len};
 pub use path::Path;
 pub use token::Token;
@@ -19,6 +19,3 @@ pub const MAX_DEPTH: usize = 32;
 
 /// How many bytes a name has at most.
 pub const MAX_NAME_LEN: usize = 64;
-
-#[cfg(test)]
-mod tests;

@@ -5,6 +5,7 @@ ghost use Rattle.hd_path.specs.Changes.{child_of, replaced};
 ghost use Rattle.hd_path.specs.Faults.{Gives};
 ghost use Rattle.hd_path.specs.Names.{IsName};
 ghost use Rattle.hd_path.specs.Parsing.{is_slash, parsed};
+ghost use Rattle.hd_path.specs.Paths;
 ghost use Rattle.hd_path.specs.Paths.{slashed, path_text, HasPrefix, IsPath};
 ghost use Rattle.hd_path.specs.Texts.{names_in, IsSlashed, GoesOnAtSlash};
 
@@ -23,10 +24,10 @@ pub struct Path {
 }
 
 impl Model for Path {
-    ghost use Rattle.std.specs.Prelude.{List, ℕ};
+    ghost use Rattle.hd_path.specs.Paths;
     ghost use Rattle.hd_path.specs.Texts.{held_text, names_in, IsSlashed};
 
-    ghost Value = { List (List ℕ) };
+    ghost Value = { Paths.Path };
 
     ghost view = { λ path. names_in (held_text path.shared) };
 
@@ -48,7 +49,7 @@ impl Path {
     pub fn parse(alloc: Global, text: &str) -> Result<Path, PathFault>
         ensures exact { Gives (parsed text.now) result }
         ensures found { IfOk result (λ names. IsPath names × (path_text names ≡ text.now)) }
-        ensures only { (names : List (List ℕ)) → IsPath names → path_text names ≡ text.now → Gives (Ok names) result }
+        ensures only { (names : Paths.Path) → IsPath names → path_text names ≡ text.now → Gives (Ok names) result }
     {
         check_path(text.as_bytes())?;
         if text.len() == 1 {

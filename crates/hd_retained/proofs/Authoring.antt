@@ -10,10 +10,10 @@ use Rattle.std.specs.declared.cmp.Ordering.TheVariants.{Less, Equal, Greater}
 use Rattle.std.specs.Str.{bytes_eq}
 use Rattle.std.specs.FinMap.{find, entries, entries_sorted, empty, get-entries, get-from_entries, same_map}
 use Rattle.std.specs.FinMap.Entries.{is_sorted, below_all}
-use Rattle.hd_usda.specs.declared.spec.Property.{Property}
-use Rattle.hd_usda.specs.declared.spec.RawValue.{RawValue}
-use Rattle.hd_usda.specs.Properties.{locator_of}
-use Rattle.hd_usda.specs.WellFormed.{are_distinct}
+use Rattle.hd_layer.specs.declared.spec.Property.{Property}
+use Rattle.hd_layer.specs.declared.spec.RawValue.{RawValue}
+use Rattle.hd_tokens.specs.Properties.{locator_of}
+use Rattle.hd_layer.specs.WellFormed.{are_distinct}
 use Rattle.hd_value.specs.Maps.{Map}
 use Rattle.hd_value.specs.Falls.{locators_total, locators_tie}
 use Rattle.hd_schema.specs.Places.{stands_at}

@@ -5,7 +5,7 @@ pub mod Listing
 pub mod Depths
 pub mod Gathering
 pub mod PathsFrom
-pub mod Shaped
+pub mod Conforming
 pub mod Used
 pub mod Closed
 pub mod Spelled

@@ -9,10 +9,10 @@ use Rattle.std.specs.Ordering.{nat_cmp, eq_by_cmp}
 use Rattle.std.specs.Str.{bytes_eq}
 use Rattle.std.specs.FinMap.{get, find, insert, remove, empty, from_entries, from_entries_push, get-insert, get-remove, get-from_entries, same_map, slice_cmp-IsAntisymmetric, nat_cmp-IsAntisymmetric}
 use Rattle.std.specs.declared.alloc.AllocError.{AllocError}
-use Rattle.hd_usda.specs.declared.spec.Property.{Property}
-use Rattle.hd_usda.specs.declared.spec.PrimSpec.{PrimSpec}
-use Rattle.hd_usda.specs.declared.spec.RawValue.{RawValue}
-use Rattle.hd_usda.specs.WellFormed.{is_below_root, is_property, is_prim_spec, are_distinct}
+use Rattle.hd_layer.specs.declared.spec.Property.{Property}
+use Rattle.hd_layer.specs.declared.spec.PrimSpec.{PrimSpec}
+use Rattle.hd_layer.specs.declared.spec.RawValue.{RawValue}
+use Rattle.hd_layer.specs.WellFormed.{is_below_root, is_property, is_prim_spec, are_distinct}
 use Rattle.hd_schema.proofs.Putting.{Holds, none_held}
 use Rattle.hd_schema.proofs.Lookups.{and_true, true_is_not}
 use Rattle.hd_retained.specs.declared.held.Held.{Held}

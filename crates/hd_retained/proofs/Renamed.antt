@@ -7,7 +7,7 @@ use Rattle.std.specs.Ordering.{eq_by_cmp}
 use Rattle.std.specs.FinMap.{get, contains_key, keys, contains_key-keys}
 use Rattle.hd_path.specs.Names.{IsName}
 use Rattle.hd_path.specs.Paths.{IsPath, path_cmp}
-use Rattle.hd_usda.specs.declared.limits.Which.TheVariants.{Depth}
+use Rattle.hd_layer.specs.declared.limits.Which.TheVariants.{Depth}
 use Rattle.hd_value.specs.Locators.{is_same, is_prefix}
 use Rattle.hd_value.proofs.Prefixes.{same_text, same_itself}
 use Rattle.hd_schema.proofs.Lookups.{and_true, true_is_not}

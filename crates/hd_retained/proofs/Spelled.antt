@@ -13,9 +13,9 @@ use Rattle.std.specs.declared.cmp.Ordering.TheVariants.{Less, Equal, Greater}
 use Rattle.std.specs.FinMap.{get, find, insert, from_entries, from_entries_push, get-insert, get-from_entries}
 use Rattle.std.specs.FinMap.Entries.{is_some-find}
 use Rattle.std.specs.BTreeMap.{BTreeMap}
-use Rattle.hd_usda.specs.declared.spec.PrimSpec.{PrimSpec}
-use Rattle.hd_usda.specs.declared.spec.LayerSpec.{LayerSpec}
-use Rattle.hd_usda.specs.WellFormed.{is_layer, is_prim_spec, is_below_root, is_property, are_distinct, ascend, has_parent}
+use Rattle.hd_layer.specs.declared.spec.PrimSpec.{PrimSpec}
+use Rattle.hd_layer.specs.declared.spec.LayerSpec.{LayerSpec}
+use Rattle.hd_layer.specs.WellFormed.{is_layer, is_prim_spec, is_below_root, is_property, are_distinct, ascend, has_parent}
 use Rattle.hd_schema.proofs.Lookups.{and_true, true_is_not}
 use Rattle.hd_path.specs.Paths.{IsPath, path_cmp}
 use Rattle.hd_schema.specs.Authored.{authored_at}

@@ -5,8 +5,8 @@ use Rattle.std.specs.Cmp.Lexicographic.{bytes_decides}
 use Rattle.std.specs.List.{list_all}
 use Rattle.std.specs.BTreeMap as tree
 use Rattle.std.specs.BTreeMap.{BTreeMap}
-use Rattle.hd_usda.specs.declared.spec.Property.{Property}
-use Rattle.hd_usda.specs.WellFormed.{is_property}
+use Rattle.hd_layer.specs.declared.spec.Property.{Property}
+use Rattle.hd_layer.specs.WellFormed.{is_property}
 use Rattle.hd_schema.proofs.Lookups.{found_in, mapped}
 use Rattle.hd_schema.proofs.Sorting.{has_name, found_only}
 use Rattle.hd_retained.specs.declared.held.Place.{Place}

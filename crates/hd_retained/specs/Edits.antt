@@ -3,11 +3,11 @@ use Rattle.std.specs.Prelude.{◌≡◌, ◌⊎◌, ℕ, ◌-◌, Bool, not, ◌
 use Rattle.std.specs.List.{list_any}
 use Rattle.std.specs.Coded.{Coded, code_by, coded×, coded_ℕ}
 use Rattle.std.specs.FinMap.{get, contains_key, insert, remove, retain_keys, len, keys, entries, empty, from_entries}
-use Rattle.hd_usda.specs.declared.edit.Edit.{Edit}
-use Rattle.hd_usda.specs.declared.edit.Edit.TheVariants.{Define, Set, Clear, Remove, Rename}
-use Rattle.hd_usda.specs.declared.limits.Which.TheVariants.{Prims, Depth}
-use Rattle.hd_usda.specs.declared.spec.Property.{Property}
-use Rattle.hd_usda.specs.Limits.{limit_of}
+use Rattle.hd_layer.specs.declared.edit.Edit.{Edit}
+use Rattle.hd_layer.specs.declared.edit.Edit.TheVariants.{Define, Set, Clear, Remove, Rename}
+use Rattle.hd_layer.specs.declared.limits.Which.TheVariants.{Prims, Depth}
+use Rattle.hd_layer.specs.declared.spec.Property.{Property}
+use Rattle.hd_layer.specs.Limits.{limit_of}
 use Rattle.hd_value.specs.Locators.{is_prefix}
 use Rattle.hd_scene.specs.declared.notice.Notice.{Notice}
 use Rattle.hd_schema.specs.Places.{locators_of}

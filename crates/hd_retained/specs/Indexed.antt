@@ -7,7 +7,7 @@ use Rattle.std.specs.declared.cmp.Ordering.{Ordering}
 use Rattle.std.specs.FinMap.{get, contains_key, insert, from_entries}
 use Rattle.std.specs.BTreeMap as tree
 use Rattle.std.specs.BTreeMap.{BTreeMap}
-use Rattle.hd_usda.specs.WellFormed.{is_property, are_distinct}
+use Rattle.hd_layer.specs.WellFormed.{is_property, are_distinct}
 use Rattle.hd_value.specs.Locators.{is_prefix}
 use Rattle.hd_path.specs.Paths.{path_cmp}
 use Rattle.hd_scene.specs.Scenes.{IsClosed}

@@ -1,9 +1,9 @@
 -- What follows from the definitions.
 use Rattle.std.specs.Prelude.{◌≡◌, ◌≢◌, ℕ, false, List, [], ◌++◌, map, Some, None, Ok, IsSome, IsTrue, Contains, option_and_then}
 use Rattle.std.specs.FinMap.{get}
-use Rattle.hd_usda.specs.declared.spec.PrimSpec.{PrimSpec}
-use Rattle.hd_usda.specs.declared.spec.LayerSpec.{LayerSpec}
-use Rattle.hd_usda.specs.WellFormed.{is_layer}
+use Rattle.hd_layer.specs.declared.spec.PrimSpec.{PrimSpec}
+use Rattle.hd_layer.specs.declared.spec.LayerSpec.{LayerSpec}
+use Rattle.hd_layer.specs.WellFormed.{is_layer}
 use Rattle.hd_value.specs.Locators.{is_prefix}
 use Rattle.hd_schema.specs.Authored.{authored_at}
 use Rattle.hd_scene.specs.Scenes.{kind_at, value_at, IsClosed}

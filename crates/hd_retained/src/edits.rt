@@ -1,15 +1,15 @@
 //! The edits of a layer, but for the renaming.
 
 ghost use Rattle.std.specs.Prelude.{◌≡◌, ◌≢◌, [], Ok, OnOk, OnErr, IfOk, IfErr, IsTrue};
-ghost use Rattle.hd_usda.specs.WellFormed.{is_property};
+ghost use Rattle.hd_layer.specs.WellFormed.{is_property};
 ghost use Rattle.hd_retained.specs.Edits.{is_full_for, after_define, after_set, after_clear, after_remove, IsRefusal};
 ghost use Rattle.hd_retained.specs.Indexed.{layer_in, IsSound, IsIndex};
 
 use crate::fault::EditFault;
 use crate::held::{Held, Place};
 use crate::prims::{find, has_parent, put, remove_all, subtree};
+use hd_layer::{Property, Which};
 use hd_path::{Path, Token};
-use hd_usda::{Property, Which};
 use std::alloc::{AllocError, Global};
 use std::collections::BTreeMap;
 

@@ -3,7 +3,7 @@
 ghost use Rattle.std.specs.Prelude.{◌≡◌};
 ghost use Rattle.hd_retained.specs.declared.fault.EditFault.TheVariants.{NoMemory};
 
-use hd_usda::Which;
+use hd_layer::Which;
 use std::alloc::{AllocError, AllocFailed};
 
 /// Why an edit is refused. A refused edit changes nothing.

@@ -3,15 +3,15 @@
 ghost use Rattle.std.specs.Prelude.{◌≡◌, ◌≢◌, [], ◌∷◌, ◌++◌, not, map, filter, IfOk, OnOk, IsTrue};
 ghost use Rattle.std.specs.List.{list_all};
 ghost use Rattle.std.specs.Str.{bytes_eq};
-ghost use Rattle.hd_usda.specs.WellFormed.{is_property, is_prim_spec, are_distinct};
+ghost use Rattle.hd_layer.specs.WellFormed.{is_property, is_prim_spec, are_distinct};
 ghost use Rattle.hd_retained.specs.Layers.{properties_of, spelled_prim};
 ghost use Rattle.hd_retained.specs.Edits.{with_value, without_value};
 ghost use Rattle.hd_retained.specs.Indexed.{place_of, prim_of, IsHeld};
 
+use hd_layer::{PrimSpec, Property};
 use hd_num::List;
 use hd_path::{Path, Token};
 use hd_schema::to_container;
-use hd_usda::{PrimSpec, Property};
 use hd_value::Container;
 use std::alloc::{AllocError, Global};
 

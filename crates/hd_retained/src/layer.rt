@@ -2,19 +2,19 @@
 
 ghost use Rattle.std.specs.Prelude.{◌≡◌, ◌≢◌, [], Ok, OnOk, OnErr, IfOk, IfErr, IsTrue, option_copied};
 ghost use Rattle.std.specs.FinMap.{get};
-ghost use Rattle.hd_usda.specs.WellFormed.{is_property, is_layer};
-ghost use Rattle.hd_value.specs.Shapes.{is_authored};
-ghost use Rattle.hd_scene.specs.Scenes.{prim_of, children_of, IsClosed, IsShapedBy};
+ghost use Rattle.hd_layer.specs.WellFormed.{is_property, is_layer};
+ghost use Rattle.hd_value.specs.Schema.{is_authored};
+ghost use Rattle.hd_scene.specs.Scenes.{prim_of, children_of, IsClosed, SceneConforms};
 ghost use Rattle.hd_retained.specs.Layers.{layer_of, scene_of, kind_in, AreUsed, ArePathsFrom};
 ghost use Rattle.hd_retained.specs.Edits.{after_define, after_set, after_clear, after_remove, after_rename, IsRefusal};
 
 use crate::fault::EditFault;
 use crate::held::{Held, Place};
 use crate::{edits, prims, renaming};
+use hd_layer::{LayerSpec, Property};
 use hd_num::List;
 use hd_path::{Path, Token};
 use hd_scene::Prim;
-use hd_usda::{LayerSpec, Property};
 use std::alloc::{AllocError, Global};
 use std::collections::BTreeMap;
 use std::marker::Model;
@@ -86,8 +86,8 @@ impl Layer {
     }
 
     /// Each value has the form of one that a text can author: a fact for proofs, which costs nothing.
-    pub(crate) fn is_shaped(&self)
-        ensures { IsShapedBy is_authored (scene_of self.now) }
+    pub(crate) fn conforms(&self)
+        ensures { SceneConforms is_authored (scene_of self.now) }
     {
         let _ = &self.prims;
     }

@@ -14,6 +14,3 @@ pub use fault::EditFault;
 pub use laws::{renaming_moves_all_below, scenes_have_what_is_authored};
 pub use layer::Layer;
 pub use retained::Retained;
-
-#[cfg(test)]
-mod tests;

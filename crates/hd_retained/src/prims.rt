@@ -8,15 +8,15 @@ ghost use Rattle.std.specs.BTreeMap as tree;
 ghost use Rattle.hd_value.specs.Locators.{is_prefix};
 ghost use Rattle.hd_scene.specs.Scenes as scene;
 ghost use Rattle.hd_scene.specs.Scenes.{child_name, children_of};
-ghost use Rattle.hd_usda.specs.WellFormed.{is_layer};
+ghost use Rattle.hd_layer.specs.WellFormed.{is_layer};
 ghost use Rattle.hd_retained.specs.Layers.{layer_of, scene_of, kind_in, ArePathsFrom};
 ghost use Rattle.hd_retained.specs.Edits.{has_parent};
 ghost use Rattle.hd_retained.specs.Indexed.{place_cmp, is_at_depth, prim_of, layer_in, IsHeld, IsSound, IsIndex, IsSubtree, IsWithout};
 
 use crate::held::{Held, Place};
+use hd_layer::LayerSpec;
 use hd_path::{MAX_DEPTH, Path, Token};
 use hd_scene::Prim;
-use hd_usda::LayerSpec;
 use std::alloc::{AllocError, Global};
 use std::collections::BTreeMap;
 

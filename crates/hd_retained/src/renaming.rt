@@ -2,7 +2,7 @@
 
 ghost use Rattle.std.specs.Prelude.{◌≡◌, ◌≢◌, ◌⊎◌, [], length, map, false, Ok, OnOk, OnErr, IfOk, IfErr, IsTrue};
 ghost use Rattle.std.specs.List.{list_all, list_any};
-ghost use Rattle.hd_usda.specs.declared.limits.Which.TheVariants.{Depth};
+ghost use Rattle.hd_layer.specs.declared.limits.Which.TheVariants.{Depth};
 ghost use Rattle.hd_value.specs.Locators.{is_prefix};
 ghost use Rattle.hd_retained.specs.declared.fault.EditFault.TheVariants.{Limit, NoMemory};
 ghost use Rattle.hd_retained.specs.Edits.{after_rename, moved, is_moved_too_deep, IsRefusal};
@@ -11,8 +11,8 @@ ghost use Rattle.hd_retained.specs.Indexed.{layer_in, moved_place, is_place_too_
 use crate::fault::EditFault;
 use crate::held::{Held, Place};
 use crate::prims::{find, has_parent, is_prefix, put, remove_all, subtree};
+use hd_layer::Which;
 use hd_path::{Path, PathFault};
-use hd_usda::Which;
 use std::alloc::{AllocError, Global};
 use std::collections::BTreeMap;
 

@@ -1,23 +1,23 @@
 //! A layer as a scene index, and its edits.
 
 ghost use Rattle.std.specs.Prelude.{◌≡◌, ◌≢◌, [], ◌∷◌, None, Ok, OnOk, OnErr, IfOk, IfErr, IsTrue, option_copied};
-ghost use Rattle.hd_usda.specs.Edits.{is_edit, may_be_set};
-ghost use Rattle.hd_usda.specs.declared.edit.Edit.TheVariants.{Set};
-ghost use Rattle.hd_usda.specs.WellFormed.{is_property, is_layer};
+ghost use Rattle.hd_layer.specs.Edits.{is_edit, may_be_set};
+ghost use Rattle.hd_layer.specs.declared.edit.Edit.TheVariants.{Set};
+ghost use Rattle.hd_layer.specs.WellFormed.{is_property, is_layer};
 ghost use Rattle.hd_schema.specs.Places.{locators_of};
 ghost use Rattle.hd_scene.specs.declared.notice.Notice.TheVariants.{Added, Removed, Dirtied, Renamed};
-ghost use Rattle.hd_value.specs.Shapes.{is_authored};
-ghost use Rattle.hd_scene.specs.Scenes.{IsClosed, IsShapedBy};
+ghost use Rattle.hd_value.specs.Schema.{is_authored};
+ghost use Rattle.hd_scene.specs.Scenes.{IsClosed, SceneConforms};
 ghost use Rattle.hd_retained.specs.Layers.{layer_of, scene_of, kind_in, AreUsed, ArePathsFrom};
 ghost use Rattle.hd_retained.specs.Edits.{after_define, after_set, after_set_if_used, after_clear, after_remove, after_rename, edited, dirtied, notices_of_edit, IsRefusal};
 
 use crate::fault::EditFault;
 use crate::layer::Layer;
+use hd_layer::{Edit, LayerSpec, Property};
 use hd_num::List;
 use hd_path::{Path, Token};
 use hd_scene::{Notice, Notices, Prim, SceneIndex};
 use hd_schema::locators_of;
-use hd_usda::{Edit, LayerSpec, Property};
 use hd_value::LocatorSet;
 use std::alloc::{AllocError, Global};
 use std::marker::Model;
@@ -90,10 +90,10 @@ impl Retained {
     }
 
     /// Each value of the scene has the form of one that a text can author: a fact for proofs, which costs nothing.
-    pub fn is_shaped(&self)
-        ensures { IsShapedBy is_authored (scene_of self.now.layer) }
+    pub fn conforms(&self)
+        ensures { SceneConforms is_authored (scene_of self.now.layer) }
     {
-        self.layer.is_shaped();
+        self.layer.conforms();
     }
 
     /// Each property of the layer is a used one whose value has its form: a fact for proofs, which costs nothing.

@@ -5,4 +5,3 @@ pub mod Children
 pub mod Trees
 pub mod Closing
 pub mod Steps
-mod Examples

@@ -11,7 +11,7 @@ use Rattle.hd_path.specs.Paths.{IsPath, path_cmp}
 use Rattle.hd_value.specs.declared.value.Value.{Value}
 use Rattle.hd_value.specs.Locators.{is_same}
 use Rattle.hd_value.specs.Maps.{Map, map_code}
-use Rattle.hd_value.specs.Shapes.{HasShape}
+use Rattle.hd_value.specs.Schema.{Conforms}
 use Rattle.hd_scene.specs.declared.prims.Entry.{Entry}
 use Rattle.hd_scene.specs.declared.prims.Primitive.{Primitive}
 
@@ -61,8 +61,8 @@ pub record IsClosed (scene : Scene) : Type 0 where
   pub paths : (path : List (List ℕ)) → IsSome (get scene path) → IsPath path
 
 -- each value of each prim may stand where it stands
-abbrev pub IsShapedBy : (List (List ℕ) → Value → Bool) → Scene → Type 0
-IsShapedBy may_stand scene = (path : List (List ℕ)) (e : Entry) → get scene path ≡ Some e → HasShape may_stand e.values
+abbrev pub SceneConforms : (List (List ℕ) → Value → Bool) → Scene → Type 0
+SceneConforms may_stand scene = (path : List (List ℕ)) (e : Entry) → get scene path ≡ Some e → Conforms may_stand e.values
 
 -- one more, or the greatest number
 abbrev pub raised : ℕ → ℕ

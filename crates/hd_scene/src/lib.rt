@@ -14,6 +14,3 @@ pub use notice::Notice;
 pub use notices::Notices;
 pub use prims::{Entry, Primitive as Prim};
 pub use scene_index::SceneIndex;
-
-#[cfg(test)]
-mod tests;

@@ -5,59 +5,56 @@ use Rattle.std.specs.List.{list_all}
 use Rattle.std.specs.Str.{bytes_eq}
 use Rattle.std.proofs.lemmas.Bool.Decides.{Decides-eqb}
 use Rattle.std.proofs.lemmas.Slice.Eq.{starts_is}
-use Rattle.hd_usda.specs.declared.properties.Role.{Role}
-use Rattle.hd_usda.specs.declared.properties.Content.TheVariants.{Attribute}
-use Rattle.hd_usda.specs.Properties.{Row, row, table, begins_op, op_role, op_row, named_row, row_of, locator_of}
+use Rattle.hd_tokens.specs.declared.properties.AttributeKind.{AttributeKind}
+use Rattle.hd_tokens.specs.declared.properties.Content.TheVariants.{Attribute}
+use Rattle.hd_tokens.specs.Locators.{op_at}
+use Rattle.hd_tokens.specs.Properties.{UsedProperty, property, used_properties, begins_op, op_kind_of, op_property, named_property, property_of, locator_of}
 use Rattle.hd_value.specs.Locators.{is_prefix, is_same}
 use Rattle.hd_schema.proofs.Lookups.{and_true, true_is_not, found_passes, found_in, mapped}
 
--- `xform`, `ops` and a text
-abbrev pub below_ops : List ℕ → List (List ℕ)
-below_ops text = codes "xform" ∷ codes "ops" ∷ text ∷ []
-
 -- the row of a name stands in the table, or is that of an op
-pub record IsNamed (name : List ℕ) (r : Row) : Type 0 where
+pub record IsNamed (name : List ℕ) (r : UsedProperty) : Type 0 where
   pub plain : begins_op name ≡ false
-  pub here : named_row name ≡ Some r
+  pub here : named_property name ≡ Some r
 
-pub record IsOp (name : List ℕ) (r : Row) : Type 0 where
+pub record IsOp (name : List ℕ) (r : UsedProperty) : Type 0 where
   pub begins : begins_op name ≡ true
-  pub role : Role
-  pub used : op_role name ≡ Some role
-  pub is : r ≡ row name (Attribute role) (below_ops (drop 8 name))
+  pub kind : AttributeKind
+  pub used : op_kind_of name ≡ Some kind
+  pub is : r ≡ property name (Attribute kind) (op_at (drop 8 name))
 
-pub row_cases : {P : Type 0} (name : List ℕ) (r : Row) → row_of name ≡ Some r → (IsNamed name r → P) → (IsOp name r → P) → P
-unfolding row_of
+pub row_cases : {P : Type 0} (name : List ℕ) (r : UsedProperty) → property_of name ≡ Some r → (IsNamed name r → P) → (IsOp name r → P) → P
+unfolding property_of
 row_cases {P} name r e named op =
-    elim (begins_op name) as (λ b. begins_op name ≡ b → cond b (op_row name) (named_row name) ≡ Some r → P) [
-      | true ↦ λ begins is. mapped (λ (role : Role). row name (Attribute role) (below_ops (drop 8 name))) (op_role name) r is (λ role used same. op (record { begins = begins; role = role; used = used; is = sym same }))
+    elim (begins_op name) as (λ b. begins_op name ≡ b → cond b (op_property name) (named_property name) ≡ Some r → P) [
+      | true ↦ λ begins is. mapped (λ (kind : AttributeKind). property name (Attribute kind) (op_at (drop 8 name))) (op_kind_of name) r is (λ kind used same. op (record { begins = begins; kind = kind; used = used; is = sym same }))
       | false ↦ λ plain is. named (record { plain = plain; here = is })
     ] refl e
 
-pub located_row : {P : Type 0} (name : List ℕ) (at : List (List ℕ)) → locator_of name ≡ Some at → ((r : Row) → row_of name ≡ Some r → r.locator ≡ at → P) → P
+pub located_row : {P : Type 0} (name : List ℕ) (at : List (List ℕ)) → locator_of name ≡ Some at → ((r : UsedProperty) → property_of name ≡ Some r → r.locator ≡ at → P) → P
 unfolding locator_of
-located_row name at e k = mapped (λ (r : Row). r.locator) (row_of name) at e k
+located_row name at e k = mapped (λ (r : UsedProperty). r.locator) (property_of name) at e k
 
 -- the name that begins as that of an op goes on with the rest
 pub op_name : (name : List ℕ) → begins_op name ≡ true → name ≡ codes "xformOp:" ++ drop 8 name
 op_name name begins = (starts_is Decides-eqb name (codes "xformOp:") (begins_op name) refl).0 begins
 
 -- the row of the table has the name
-pub row_name : (name : List ℕ) (r : Row) → IsNamed name r → name ≡ r.name
-row_name name r h = (bytes_decides name r.name).0 (found_passes (λ s. bytes_eq name s.name) table r h.here)
+pub row_name : (name : List ℕ) (r : UsedProperty) → IsNamed name r → name ≡ r.name
+row_name name r h = (bytes_decides name r.name).0 (found_passes (λ s. bytes_eq name s.name) used_properties r h.here)
 
 -- a row's locator begins with that of another row only where they have one name
-abbrev apart : Row → Row → Bool
+abbrev apart : UsedProperty → UsedProperty → Bool
 apart r s = not (is_prefix r.locator s.locator) || bytes_eq r.name s.name
 
-table_apart : list_all (λ r. list_all (apart r) table) table ≡ true
+table_apart : list_all (λ r. list_all (apart r) used_properties) used_properties ≡ true
 table_apart = refl
 
 -- no row's locator is above that of an op, or below it
-above_none : (text : List ℕ) → list_all (λ (r : Row). not (is_prefix r.locator (below_ops text))) table ≡ true
+above_none : (text : List ℕ) → list_all (λ (r : UsedProperty). not (is_prefix r.locator (op_at text))) used_properties ≡ true
 above_none text = refl
 
-below_none : (text : List ℕ) → list_all (λ (r : Row). not (is_prefix (below_ops text) r.locator)) table ≡ true
+below_none : (text : List ℕ) → list_all (λ (r : UsedProperty). not (is_prefix (op_at text) r.locator)) used_properties ≡ true
 below_none text = refl
 
 not_true : {P : Type 0} (b : Bool) → not b ≡ true → b ≡ true → P
@@ -68,14 +65,14 @@ or_left : (a b : Bool) → (not a || b) ≡ true → a ≡ true → b ≡ true
 or_left true b e is = e
 or_left false b e is = true_is_not (sym is)
 
-rows_apart : (n m : List ℕ) (r s : Row) → IsNamed n r → IsNamed m s → is_prefix r.locator s.locator ≡ true → n ≡ m
+rows_apart : (n m : List ℕ) (r s : UsedProperty) → IsNamed n r → IsNamed m s → is_prefix r.locator s.locator ≡ true → n ≡ m
 rows_apart n m r s hr hs p =
-    let with_r : list_all (apart r) table ≡ true = found_in (λ (x : Row). list_all (apart x) table) (λ (x : Row). bytes_eq n x.name) table r table_apart hr.here in
-    let both : apart r s ≡ true = found_in (apart r) (λ (x : Row). bytes_eq m x.name) table s with_r hs.here in
+    let with_r : list_all (apart r) used_properties ≡ true = found_in (λ (x : UsedProperty). list_all (apart x) used_properties) (λ (x : UsedProperty). bytes_eq n x.name) used_properties r table_apart hr.here in
+    let both : apart r s ≡ true = found_in (apart r) (λ (x : UsedProperty). bytes_eq m x.name) used_properties s with_r hs.here in
     let same : r.name ≡ s.name = (bytes_decides r.name s.name).0 (or_left (is_prefix r.locator s.locator) (bytes_eq r.name s.name) both p) in
     row_name n r hr ∙ same ∙ sym (row_name m s hs)
 
-ops_apart : (n m : List ℕ) → begins_op n ≡ true → begins_op m ≡ true → is_prefix (below_ops (drop 8 n)) (below_ops (drop 8 m)) ≡ true → n ≡ m
+ops_apart : (n m : List ℕ) → begins_op n ≡ true → begins_op m ≡ true → is_prefix (op_at (drop 8 n)) (op_at (drop 8 m)) ≡ true → n ≡ m
 ops_apart n m bn bm p =
     let same : drop 8 n ≡ drop 8 m = (bytes_decides (drop 8 n) (drop 8 m)).0 (and_true (is_same (drop 8 n) (drop 8 m)) true p).0 in
     op_name n bn ∙ ap (λ text. codes "xformOp:" ++ text) same ∙ sym (op_name m bm)
@@ -88,17 +85,17 @@ names_apart n m a b en em p =
     row_cases n r row_n
     (λ hr. row_cases m s row_m
     (λ hs. rows_apart n m r s hr hs q)
-    (λ os. not_true (is_prefix r.locator (below_ops (drop 8 m))) (found_in (λ (x : Row). not (is_prefix x.locator (below_ops (drop 8 m)))) (λ (x : Row). bytes_eq n x.name) table r (above_none (drop 8 m)) hr.here) (ap (λ (x : Row). is_prefix r.locator x.locator) (sym os.is) ∙ q)))
+    (λ os. not_true (is_prefix r.locator (op_at (drop 8 m))) (found_in (λ (x : UsedProperty). not (is_prefix x.locator (op_at (drop 8 m)))) (λ (x : UsedProperty). bytes_eq n x.name) used_properties r (above_none (drop 8 m)) hr.here) (ap (λ (x : UsedProperty). is_prefix r.locator x.locator) (sym os.is) ∙ q)))
     (λ or. row_cases m s row_m
-    (λ hs. not_true (is_prefix (below_ops (drop 8 n)) s.locator) (found_in (λ (x : Row). not (is_prefix (below_ops (drop 8 n)) x.locator)) (λ (x : Row). bytes_eq m x.name) table s (below_none (drop 8 n)) hs.here) (ap (λ (x : Row). is_prefix x.locator s.locator) (sym or.is) ∙ q))
-    (λ os. ops_apart n m or.begins os.begins (ap (λ (x : Row). is_prefix (below_ops (drop 8 n)) x.locator) (sym os.is) ∙ ap (λ (x : Row). is_prefix x.locator s.locator) (sym or.is) ∙ q)))))
+    (λ hs. not_true (is_prefix (op_at (drop 8 n)) s.locator) (found_in (λ (x : UsedProperty). not (is_prefix (op_at (drop 8 n)) x.locator)) (λ (x : UsedProperty). bytes_eq m x.name) used_properties s (below_none (drop 8 n)) hs.here) (ap (λ (x : UsedProperty). is_prefix x.locator s.locator) (sym or.is) ∙ q))
+    (λ os. ops_apart n m or.begins os.begins (ap (λ (x : UsedProperty). is_prefix (op_at (drop 8 n)) x.locator) (sym os.is) ∙ ap (λ (x : UsedProperty). is_prefix x.locator s.locator) (sym or.is) ∙ q)))))
 
 -- a locator has a token
 has_token : List (List ℕ) → Bool
 has_token [] = false
 has_token (x ∷ at) = true
 
-all_tokens : list_all (λ (r : Row). has_token r.locator) table ≡ true
+all_tokens : list_all (λ (r : UsedProperty). has_token r.locator) used_properties ≡ true
 unfolding has_token
 all_tokens = refl
 
@@ -107,5 +104,5 @@ unfolding has_token
 some_token name at located none =
     located_row name at located (λ r row_r is.
     row_cases name r row_r
-    (λ h. true_is_not (sym (found_in (λ (x : Row). has_token x.locator) (λ (x : Row). bytes_eq name x.name) table r all_tokens h.here) ∙ ap has_token (is ∙ none)))
-    (λ o. true_is_not (ap (λ (x : Row). has_token x.locator) (sym o.is) ∙ ap has_token (is ∙ none))))
+    (λ h. true_is_not (sym (found_in (λ (x : UsedProperty). has_token x.locator) (λ (x : UsedProperty). bytes_eq name x.name) used_properties r all_tokens h.here) ∙ ap has_token (is ∙ none)))
+    (λ o. true_is_not (ap (λ (x : UsedProperty). has_token x.locator) (sym o.is) ∙ ap has_token (is ∙ none))))

@@ -4,5 +4,5 @@ pub mod Apart
 pub mod Putting
 pub mod Sorting
 pub mod OpNames
-pub mod Shaping
+pub mod Conforming
 pub mod Valued

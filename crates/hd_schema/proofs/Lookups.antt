@@ -55,19 +55,6 @@ pub is_some-find : {X : Type 0} (test : X → Bool) (xs : List X) → is_some (f
 is_some-find test [] = refl
 is_some-find test (x ∷ xs) = elim (test x) as (λ b. is_some (cond b (Some x) (find test xs)) ≡ (b || list_any test xs)) [ true ↦ refl | false ↦ is_some-find test xs ]
 
--- a weaker test is passed too
-pub any_passes : {X : Type 0} (p q : X → Bool) → ((x : X) → p x ≡ true → q x ≡ true) → (xs : List X) → list_any p xs ≡ true → list_any q xs ≡ true
-any_passes p q weaker [] e = e
-any_passes p q weaker (x ∷ xs) e =
-    elim (p x) as (λ b. p x ≡ b → (b || list_any p xs) ≡ true → (q x || list_any q xs) ≡ true) [
-      | true ↦ λ passes _. ap (λ b. b || list_any q xs) (weaker x passes)
-      | false ↦ λ _ later. or_later (q x) (any_passes p q weaker xs later)
-    ] refl e
-  where
-    or_later : (b : Bool) → list_any q xs ≡ true → (b || list_any q xs) ≡ true
-    or_later true e = refl
-    or_later false e = e
-
 -- what a mapped option holds
 pub mapped : {X Y P : Type 0} (f : X → Y) (o : Option X) (y : Y) → option_map f o ≡ Some y → ((x : X) → o ≡ Some x → f x ≡ y → P) → P
 mapped f None y e k = some_is_not y (sym e)
@@ -76,13 +63,3 @@ mapped f (Some x) y e k = k x refl cc
 pub chained : {X Y P : Type 0} (f : X → Option Y) (o : Option X) (y : Y) → option_and_then f o ≡ Some y → ((x : X) → o ≡ Some x → f x ≡ Some y → P) → P
 chained f None y e k = some_is_not y (sym e)
 chained f (Some x) y e k = k x refl e
-
-pub all_passes : {X : Type 0} (p q : X → Bool) → ((x : X) → p x ≡ true → q x ≡ true) → (xs : List X) → list_all p xs ≡ true → list_all q xs ≡ true
-all_passes p q weaker [] e = refl
-all_passes p q weaker (x ∷ xs) e =
-    let both = and_true (p x) (list_all p xs) e in
-    ap (λ b. b && list_all q xs) (weaker x both.0) ∙ all_passes p q weaker xs both.1
-
-pub or_weaker : (a b c : Bool) → (b ≡ true → c ≡ true) → (a || b) ≡ true → (a || c) ≡ true
-or_weaker true b c weaker e = refl
-or_weaker false b c weaker e = weaker e

@@ -5,9 +5,10 @@ use Rattle.std.specs.Str.Pattern.{FindsTextPrefix}
 use Rattle.std.proofs.lemmas.Bool.Decides.{Decides-eqb}
 use Rattle.std.proofs.lemmas.Slice.Eq.{starts_is}
 use Rattle.std.proofs.lemmas.Str.Pattern.{starts_text}
-use Rattle.hd_usda.specs.declared.properties.Role.{Role}
-use Rattle.hd_usda.specs.declared.properties.Content.TheVariants.{Attribute}
-use Rattle.hd_usda.specs.Properties.{row, begins_op, op_role, op_row, named_row, row_of, content_of, locator_of}
+use Rattle.hd_tokens.specs.declared.properties.AttributeKind.{AttributeKind}
+use Rattle.hd_tokens.specs.declared.properties.Content.TheVariants.{Attribute}
+use Rattle.hd_tokens.specs.Locators.{op_at}
+use Rattle.hd_tokens.specs.Properties.{property, begins_op, op_kind_of, op_property, named_property, property_of, content_of, locator_of}
 use Rattle.hd_value.specs.LocatorSets.{inserted}
 
 pub inserted_first : (at : List (List ℕ)) → inserted [] at ≡ at ∷ []
@@ -22,22 +23,22 @@ begins_other name none = sym (starts_text false (codes "xformOp:") name none)
 
 -- where an op's value stands
 op_place : List ℕ → List (List ℕ)
-op_place name = codes "xform" ∷ codes "ops" ∷ drop 8 name ∷ []
+op_place name = op_at (drop 8 name)
 
-row_at : (name : List ℕ) → begins_op name ≡ true → row_of name ≡ op_row name
-unfolding row_of
-row_at name begins = ap (λ b. cond b (op_row name) (named_row name)) begins
+row_at : (name : List ℕ) → begins_op name ≡ true → property_of name ≡ op_property name
+unfolding property_of
+row_at name begins = ap (λ b. cond b (op_property name) (named_property name)) begins
 
-pub op_located : (name : List ℕ) → name ≡ codes "xformOp:" ++ drop 8 name → is_some (content_of name) ≡ true → locator_of name ≡ Some (codes "xform" ∷ codes "ops" ∷ drop 8 name ∷ [])
+pub op_located : (name : List ℕ) → name ≡ codes "xformOp:" ++ drop 8 name → is_some (content_of name) ≡ true → locator_of name ≡ Some (op_at (drop 8 name))
 unfolding content_of locator_of
 op_located name is used =
     ap (option_map (λ r. r.locator)) same
-    ∙ elim (op_role name) as (λ o. is_some (option_map (λ r. r.content) (option_map (λ (role : Role). row name (Attribute role) (codes "xform" ∷ codes "ops" ∷ drop 8 name ∷ [])) o)) ≡ true → option_map (λ r. r.locator) (option_map (λ (role : Role). row name (Attribute role) (codes "xform" ∷ codes "ops" ∷ drop 8 name ∷ [])) o) ≡ Some (codes "xform" ∷ codes "ops" ∷ drop 8 name ∷ [])) [
-      | Some role ↦ λ _. refl
+    ∙ elim (op_kind_of name) as (λ o. is_some (option_map (λ r. r.content) (option_map (λ (kind : AttributeKind). property name (Attribute kind) (op_at (drop 8 name))) o)) ≡ true → option_map (λ r. r.locator) (option_map (λ (kind : AttributeKind). property name (Attribute kind) (op_at (drop 8 name))) o) ≡ Some (op_at (drop 8 name))) [
+      | Some kind ↦ λ _. refl
       | None ↦ λ no. absurd (false_is_not no)
     ] (sym (ap (λ o. is_some (option_map (λ r. r.content) o)) same) ∙ used)
   where
-    same : row_of name ≡ op_row name
+    same : property_of name ≡ op_property name
     same = row_at name (begins_behind name is)
 
     false_is_not : false ≡ true → ⊥
@@ -46,7 +47,7 @@ op_located name is used =
 pub op_unused : (name : List ℕ) → is_some (content_of name) ≡ false → locator_of name ≡ None
 unfolding content_of locator_of
 op_unused name unused =
-    elim (row_of name) as (λ o. is_some (option_map (λ r. r.content) o) ≡ false → ◌≡◌ {A = Option (List (List ℕ))} (option_map (λ r. r.locator) o) None) [
+    elim (property_of name) as (λ o. is_some (option_map (λ r. r.content) o) ≡ false → ◌≡◌ {A = Option (List (List ℕ))} (option_map (λ r. r.locator) o) None) [
       | Some r ↦ λ no. absurd (true_is_not no)
       | None ↦ λ _. refl
     ] unused
@@ -54,6 +55,6 @@ op_unused name unused =
     true_is_not : true ≡ false → ⊥
     true_is_not e = cc
 
-pub plain_located : (name : List ℕ) → FindsTextPrefix (codes "xformOp:") name None → option_map (λ r. r.locator) (named_row name) ≡ locator_of name
-unfolding locator_of row_of
-plain_located name none = ap (λ b. option_map (λ r. r.locator) (cond b (op_row name) (named_row name))) (sym (begins_other name none))
+pub plain_located : (name : List ℕ) → FindsTextPrefix (codes "xformOp:") name None → option_map (λ r. r.locator) (named_property name) ≡ locator_of name
+unfolding locator_of property_of
+plain_located name none = ap (λ b. option_map (λ r. r.locator) (cond b (op_property name) (named_property name))) (sym (begins_other name none))

@@ -9,8 +9,8 @@ use Rattle.std.specs.Str.{bytes_eq}
 use Rattle.std.proofs.lemmas.Cmp.{eq_by_cmp_equiv}
 use Rattle.std.proofs.lemmas.List.Folds.{find-append}
 use Rattle.std.proofs.lemmas.Map.Views.{tells_apart}
-use Rattle.hd_usda.specs.declared.spec.Property.{Property}
-use Rattle.hd_usda.specs.Properties.{locator_of}
+use Rattle.hd_layer.specs.declared.spec.Property.{Property}
+use Rattle.hd_tokens.specs.Properties.{locator_of}
 use Rattle.hd_value.specs.declared.value.Value.{Value}
 use Rattle.hd_value.specs.Falls.{locators_total, locators_tie}
 use Rattle.hd_value.specs.Locators.{is_prefix}

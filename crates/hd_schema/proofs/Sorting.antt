@@ -8,10 +8,10 @@ use Rattle.std.specs.Str.{bytes_eq}
 use Rattle.std.proofs.lemmas.List.{take_all, take_more, map-append}
 use Rattle.std.proofs.lemmas.List.Sums.{sum_by-cons}
 use Rattle.std.proofs.lemmas.List.Sorted.{Contains-permutation, sum_by-IsPermutation, list_any-IsPermutation}
-use Rattle.hd_usda.specs.declared.spec.Property.{Property}
-use Rattle.hd_usda.specs.Properties.{locator_of}
-use Rattle.hd_usda.specs.declared.spec.PrimSpec.{PrimSpec}
-use Rattle.hd_usda.specs.WellFormed.{are_distinct, is_prim_spec}
+use Rattle.hd_layer.specs.declared.spec.Property.{Property}
+use Rattle.hd_tokens.specs.Properties.{locator_of}
+use Rattle.hd_layer.specs.declared.spec.PrimSpec.{PrimSpec}
+use Rattle.hd_layer.specs.WellFormed.{are_distinct, is_prim_spec}
 use Rattle.hd_value.specs.Maps.{Map}
 use Rattle.hd_schema.specs.Places.{stands_at}
 use Rattle.hd_schema.specs.Authored.{property_value, authored_at}

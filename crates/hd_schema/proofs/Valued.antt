@@ -11,15 +11,15 @@ use Rattle.hd_num.specs.declared.axis.Axis.TheVariants.{X, Y, Z}
 use Rattle.hd_num.specs.declared.op.Op.TheVariants.{Translate, Scale, Transform}
 use Rattle.hd_num.specs.declared.vector.Vec3.{Vec3}
 use Rattle.hd_num.specs.Matrices.{Rows}
-use Rattle.hd_usda.specs.declared.properties.Role.{Role}
-use Rattle.hd_usda.specs.declared.properties.Content.{Content}
-use Rattle.hd_usda.specs.declared.spec.PrimSpec.{PrimSpec}
-use Rattle.hd_usda.specs.declared.spec.Property.{Property}
-use Rattle.hd_usda.specs.declared.spec.RawValue.{RawValue}
-use Rattle.hd_usda.specs.declared.spec.RawValue.TheVariants.{Numbers, Triples, Words, Paths, Matrix}
-use Rattle.hd_usda.specs.Prims.{Path}
-use Rattle.hd_usda.specs.Properties.{Row, OpKind, table, op_kinds, row_of, content_of, role_of, role_in, is_targets, is_target_name, locator_of}
-use Rattle.hd_usda.specs.WellFormed.{has_form, has_value, are_triples, are_numbers, are_words, are_paths, are_rows, is_single, is_list, is_below_root, are_distinct, is_property, is_prim_spec}
+use Rattle.hd_tokens.specs.declared.properties.AttributeKind.{AttributeKind}
+use Rattle.hd_tokens.specs.declared.properties.Content.{Content}
+use Rattle.hd_layer.specs.declared.spec.PrimSpec.{PrimSpec}
+use Rattle.hd_layer.specs.declared.spec.Property.{Property}
+use Rattle.hd_layer.specs.declared.spec.RawValue.{RawValue}
+use Rattle.hd_layer.specs.declared.spec.RawValue.TheVariants.{Numbers, Triples, Words, Paths, Matrix}
+use Rattle.hd_path.specs.Paths.{Path}
+use Rattle.hd_tokens.specs.Properties.{UsedProperty, OpKind, used_properties, op_kinds, property_of, content_of, attribute_kind_of, attribute_kind_in, is_targets, is_target_name, locator_of}
+use Rattle.hd_layer.specs.WellFormed.{has_form, has_value, are_triples, are_numbers, are_words, are_paths, are_rows, is_single, is_list, is_below_root, are_distinct, is_property, is_prim_spec}
 use Rattle.hd_value.specs.declared.value.Value.{Value}
 use Rattle.hd_value.specs.declared.value.Value.TheVariants as value
 use Rattle.hd_value.specs.Maps.{Map}
@@ -28,9 +28,9 @@ use Rattle.hd_schema.specs.OpValues.{only, numbers, triples, number, triple, mat
 use Rattle.hd_schema.specs.Values.{words, word, paths, op, attribute_value, content_value, value_of}
 use Rattle.hd_schema.proofs.Apart.{IsOp, row_cases, row_name}
 use Rattle.hd_schema.proofs.Lookups.{Each, and_true, true_is_not, found_among}
-use Rattle.hd_schema.proofs.OpNames.{role_among}
+use Rattle.hd_schema.proofs.OpNames.{kind_among}
 use Rattle.hd_schema.proofs.Putting.{Holds}
-use Rattle.hd_schema.proofs.Shaping.{content_form, form_of}
+use Rattle.hd_schema.proofs.Conforming.{content_form, form_of}
 use Rattle.hd_schema.proofs.Sorting.{found_own, prim_once}
 
 made : {A B : Type 0} (f : A → B) (o : Option A) → IsSome o → IsSome (option_map f o)
@@ -102,10 +102,10 @@ word_there test (Paths ps) e = true_is_not (sym e)
 word_there test (Matrix m) e = true_is_not (sym e)
 
 -- a value of the row's form becomes a value
-IsValued : Row → Type 0
+IsValued : UsedProperty → Type 0
 IsValued r = (v : RawValue) → content_form r.content v ≡ true → IsSome (content_value r.content r.name v)
 
-rows_valued : Each IsValued table
+rows_valued : Each IsValued used_properties
 unfolding IsValued
 rows_valued = (
   λ v e. made _ (triples v) (triples_there _ v e),
@@ -147,7 +147,7 @@ rows_valued = (
 
 -- a value of the form of a kind of ops becomes an op, whatever the name of this kind
 IsOpValued : OpKind → Type 0
-IsOpValued k = (name : List ℕ) (v : RawValue) → kind_of name ≡ k.name → has_form k.role v ≡ true → IsSome (attribute_value k.role name v)
+IsOpValued k = (name : List ℕ) (v : RawValue) → kind_of name ≡ k.name → has_form k.kind v ≡ true → IsSome (attribute_value k.kind name v)
 
 -- where the kind gives an op, so does the name
 op_made : (name kind : List ℕ) (v : RawValue) → kind_of name ≡ kind → IsSome (op_of_kind kind v) → IsSome (op name v)
@@ -175,47 +175,47 @@ kinds_valued = (
   ),
 )
 
-op_row_valued : (name : List ℕ) (r : Row) (v : RawValue) → IsOp name r → content_form r.content v ≡ true → IsSome (content_value r.content name v)
+op_row_valued : (name : List ℕ) (r : UsedProperty) (v : RawValue) → IsOp name r → content_form r.content v ≡ true → IsSome (content_value r.content name v)
 unfolding IsOpValued
 op_row_valued name r v h form =
-    role_among IsOpValued kinds_valued name h.role h.used (λ k valued kind same.
-    let own : has_form k.role v ≡ true = ap (λ (a : Role). has_form a v) same ∙ ap (λ (s : Row). content_form s.content v) (sym h.is) ∙ form in
-    ap (λ (s : Row). is_some (content_value s.content name v)) h.is
-    ∙ ap (λ (a : Role). is_some (attribute_value a name v)) (sym same)
+    kind_among IsOpValued kinds_valued name h.kind h.used (λ k valued kind same.
+    let own : has_form k.kind v ≡ true = ap (λ (a : AttributeKind). has_form a v) same ∙ ap (λ (s : UsedProperty). content_form s.content v) (sym h.is) ∙ form in
+    ap (λ (s : UsedProperty). is_some (content_value s.content name v)) h.is
+    ∙ ap (λ (a : AttributeKind). is_some (attribute_value a name v)) (sym same)
     ∙ valued name v kind own)
 
-row_valued : (name : List ℕ) (r : Row) (v : RawValue) → row_of name ≡ Some r → content_form r.content v ≡ true → IsSome (content_value r.content name v)
+row_valued : (name : List ℕ) (r : UsedProperty) (v : RawValue) → property_of name ≡ Some r → content_form r.content v ≡ true → IsSome (content_value r.content name v)
 unfolding IsValued
 row_valued name r v row_r form =
     row_cases name r row_r
     (λ h.
-    let valued : IsValued r = found_among IsValued (λ (s : Row). bytes_eq name s.name) table r rows_valued h.here in
+    let valued : IsValued r = found_among IsValued (λ (s : UsedProperty). bytes_eq name s.name) used_properties r rows_valued h.here in
     ap (λ (n : List ℕ). is_some (content_value r.content n v)) (row_name name r h) ∙ valued v form)
     (λ h. op_row_valued name r v h form)
 
 -- a property that is well formed has a row
-used_row : {P : Type 0} (p : Property) → is_property p ≡ true → ((r : Row) → row_of p.name ≡ Some r → P) → P
-unfolding content_of role_of
+used_row : {P : Type 0} (p : Property) → is_property p ≡ true → ((r : UsedProperty) → property_of p.name ≡ Some r → P) → P
+unfolding content_of attribute_kind_of
 used_row {P} p formed k =
-    elim (row_of p.name) as (λ o. row_of p.name ≡ o → P) [
+    elim (property_of p.name) as (λ o. property_of p.name ≡ o → P) [
       | Some r ↦ λ e. k r e
       | None ↦ λ none.
-          let no_role : has_value None p.name p.value ≡ true = ap (λ o. has_value (option_and_then role_in (option_map (λ (s : Row). s.content) o)) p.name p.value) (sym none) ∙ formed in
+          let no_role : has_value None p.name p.value ≡ true = ap (λ o. has_value (option_and_then attribute_kind_in (option_map (λ (s : UsedProperty). s.content) o)) p.name p.value) (sym none) ∙ formed in
           let target = (and_true (is_target_name p.name) (are_paths (is_list is_below_root) p.value) no_role).0 in
-          true_is_not (sym (ap (λ o. is_targets (option_map (λ (s : Row). s.content) o)) (sym none) ∙ target))
+          true_is_not (sym (ap (λ o. is_targets (option_map (λ (s : UsedProperty). s.content) o)) (sym none) ∙ target))
     ] refl
 
-property_valued : (p : Property) (r : Row) → is_property p ≡ true → row_of p.name ≡ Some r → IsSome (property_value p)
-unfolding content_of role_of value_of
+property_valued : (p : Property) (r : UsedProperty) → is_property p ≡ true → property_of p.name ≡ Some r → IsSome (property_value p)
+unfolding content_of attribute_kind_of value_of
 property_valued p r formed row_r =
-    let content : option_map (λ (s : Row). s.content) (row_of p.name) ≡ Some r.content = ap (option_map (λ (s : Row). s.content)) row_r in
-    let own : has_value (role_in r.content) p.name p.value ≡ true = ap (λ o. has_value (option_and_then role_in o) p.name p.value) (sym content) ∙ formed in
+    let content : option_map (λ (s : UsedProperty). s.content) (property_of p.name) ≡ Some r.content = ap (option_map (λ (s : UsedProperty). s.content)) row_r in
+    let own : has_value (attribute_kind_in r.content) p.name p.value ≡ true = ap (λ o. has_value (option_and_then attribute_kind_in o) p.name p.value) (sym content) ∙ formed in
     ap (λ o. is_some (option_and_then (λ (c : Content). content_value c p.name p.value) o)) content
     ∙ row_valued p.name r p.value row_r (form_of r.content p.name p.value own)
 
-located : (name : List ℕ) (r : Row) → row_of name ≡ Some r → locator_of name ≡ Some r.locator
+located : (name : List ℕ) (r : UsedProperty) → property_of name ≡ Some r → locator_of name ≡ Some r.locator
 unfolding locator_of
-located name r e = ap (option_map (λ (s : Row). s.locator)) e
+located name r e = ap (option_map (λ (s : UsedProperty). s.locator)) e
 
 some_and : (o stands : Option Value) → IsSome o → stands ≡ o → IsSomeAnd o (λ v. stands ≡ Some v)
 some_and None stands e same = true_is_not (sym e)

@@ -2,8 +2,8 @@
 use Rattle.std.specs.Prelude.{◌≡◌, ◌≢◌, ℕ, List, [], Option, Some, None, IsSomeAnd, find}
 use Rattle.std.specs.FinMap.{get}
 use Rattle.std.specs.Option.{option_and_then}
-use Rattle.hd_usda.specs.declared.spec.Property.{Property}
-use Rattle.hd_usda.specs.Properties.{locator_of}
+use Rattle.hd_layer.specs.declared.spec.Property.{Property}
+use Rattle.hd_tokens.specs.Properties.{locator_of}
 use Rattle.hd_value.specs.declared.value.Value.{Value}
 use Rattle.hd_value.specs.Maps.{Map, IsFree, set_at}
 use Rattle.hd_schema.specs.Places.{stands_at}

@@ -9,9 +9,9 @@ use Rattle.hd_num.specs.declared.op.Op.{Op}
 use Rattle.hd_num.specs.declared.op.Op.TheVariants.{Translate, Scale, Rotate, RotateXyz, Transform}
 use Rattle.hd_num.specs.declared.vector.Vec3.{Vec3}
 use Rattle.hd_num.specs.Matrices.{Rows}
-use Rattle.hd_usda.specs.declared.spec.RawValue.{RawValue}
-use Rattle.hd_usda.specs.declared.spec.RawValue.TheVariants as raw
-use Rattle.hd_usda.specs.Properties.{first_part}
+use Rattle.hd_layer.specs.declared.spec.RawValue.{RawValue}
+use Rattle.hd_layer.specs.declared.spec.RawValue.TheVariants as raw
+use Rattle.hd_tokens.specs.Properties.{first_part}
 
 -- the item of a list of one
 abbrev pub only : {A : Type 0} → List A → Option A

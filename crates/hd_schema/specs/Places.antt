@@ -3,7 +3,7 @@ use Rattle.std.specs.Prelude.{ℕ, Bool, false, List, [], ◌∷◌, Option, Som
 use Rattle.std.specs.Option.{option_map_or}
 use Rattle.std.specs.Str.{bytes_eq}
 use Rattle.std.specs.Cmp.Lexicographic.{pointwise}
-use Rattle.hd_usda.specs.Properties.{locator_of}
+use Rattle.hd_tokens.specs.Properties.{locator_of}
 
 -- a locator alone in a set, or the empty set
 abbrev pub set_of : Option (List (List ℕ)) → List (List (List ℕ))

@@ -1,13 +1,13 @@
 -- What the values of properties become.
 use Rattle.std.specs.Prelude.{ℕ, List, map, Option, Some, None}
 use Rattle.std.specs.Option.{option_map, option_and_then}
-use Rattle.hd_usda.specs.declared.properties.Role.{Role}
-use Rattle.hd_usda.specs.declared.properties.Role.TheVariants.{Points, Numbers, Colors, ByteColors, OpOrder, Visibility, Purpose, Vector, Angle, Angles, Transform, ByteColor}
-use Rattle.hd_usda.specs.declared.properties.Content.{Content}
-use Rattle.hd_usda.specs.declared.properties.Content.TheVariants.{Attribute, Targets}
-use Rattle.hd_usda.specs.declared.spec.RawValue.{RawValue}
-use Rattle.hd_usda.specs.declared.spec.RawValue.TheVariants as raw
-use Rattle.hd_usda.specs.Properties.{content_of}
+use Rattle.hd_tokens.specs.declared.properties.AttributeKind.{AttributeKind}
+use Rattle.hd_tokens.specs.declared.properties.AttributeKind.TheVariants.{Points, Numbers, Colors, ByteColors, OpOrder, Visibility, Purpose, Vector, Angle, Angles, Transform, ByteColor}
+use Rattle.hd_tokens.specs.declared.properties.Content.{Content}
+use Rattle.hd_tokens.specs.declared.properties.Content.TheVariants.{Attribute, Targets}
+use Rattle.hd_layer.specs.declared.spec.RawValue.{RawValue}
+use Rattle.hd_layer.specs.declared.spec.RawValue.TheVariants as raw
+use Rattle.hd_tokens.specs.Properties.{content_of}
 use Rattle.hd_value.specs.declared.value.Value.{Value}
 use Rattle.hd_value.specs.declared.value.Value.TheVariants as value
 use Rattle.hd_schema.specs.Colors.{byte_color, light_color}
@@ -36,8 +36,8 @@ word v = option_and_then only (words v)
 abbrev pub op : List ℕ → RawValue → Option Value
 op name v = option_map value.Op (op_of_kind (kind_of name) v)
 
--- what the value of an attribute becomes by its role
-abbrev pub attribute_value : Role → List ℕ → RawValue → Option Value
+-- what the value of an attribute becomes by its kind
+abbrev pub attribute_value : AttributeKind → List ℕ → RawValue → Option Value
 attribute_value Points name v = option_map value.Vecs (triples v)
 attribute_value Numbers name v = option_map value.Ints (numbers v)
 attribute_value Colors name v = option_map (λ vs. value.Colors (map light_color vs)) (triples v)
@@ -53,7 +53,7 @@ attribute_value ByteColor name v = option_map (λ t. value.Color (byte_color t))
 
 -- what the value of a property becomes: targets become paths
 abbrev pub content_value : Content → List ℕ → RawValue → Option Value
-content_value (Attribute role) name v = attribute_value role name v
+content_value (Attribute kind) name v = attribute_value kind name v
 content_value Targets name v = option_map value.Paths (paths v)
 
 -- what the value of the used property of this name becomes

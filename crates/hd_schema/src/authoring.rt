@@ -5,27 +5,27 @@ ghost use Rattle.std.specs.Cmp.Lexicographic.{slice_cmp};
 ghost use Rattle.std.specs.FinMap.{get};
 ghost use Rattle.std.specs.List.Sorted.{IsSortedByKey};
 ghost use Rattle.std.specs.Ordering.{nat_cmp};
-ghost use Rattle.hd_usda.specs.Properties.{locator_of};
-ghost use Rattle.hd_usda.specs.WellFormed.{is_prim_spec};
-ghost use Rattle.hd_value.specs.Shapes.{IsAuthored};
+ghost use Rattle.hd_tokens.specs.Properties.{locator_of};
+ghost use Rattle.hd_layer.specs.WellFormed.{is_prim_spec};
+ghost use Rattle.hd_value.specs.Schema.{IsAuthored};
 ghost use Rattle.hd_schema.specs.Authored.{authored_at, with_property, HasValueOf, IsFreeAt};
 
 use crate::locating::locator_of;
 use crate::values::value_of;
-use hd_usda::{PrimSpec, Property};
+use hd_layer::{PrimSpec, Property};
 use hd_value::Container;
 use std::alloc::{AllocError, Global};
 
 /// The values of a prim's properties, each at its locator.
 ///
-/// Lists of points, numbers, words and paths are shared with the prim and not copied. A colour by bytes has each
-/// channel clamped to 0..255, and of a display colour a channel below 1 gives 0 and any other 255. A turn is counted
-/// in quarters from 0 to 3. The call fails for want of memory alone.
+/// Lists of points, numbers, words and paths are shared with the prim and not copied. A color by bytes has each
+/// channel clamped to 0..255, and of a display color a channel below 1 gives 0 and any other 255. A turn is counted
+/// in quarters from 0 to 3. The call fails only where it is out of memory.
 pub fn to_container(alloc: Global, prim: &PrimSpec) -> Result<Container, AllocError>
     requires well_formed { IsTrue (is_prim_spec prim.now) }
     ensures values { IfOk result (λ values. (at : List (List ℕ)) → get values at ≡ authored_at prim.now.properties at) }
     ensures each { IfOk result (λ values. All (HasValueOf values) prim.now.properties) }
-    ensures shaped { IfOk result (λ values. IsAuthored values) }
+    ensures conforms { IfOk result (λ values. IsAuthored values) }
 {
     let properties = by_name(alloc, prim.properties.items())?;
     let mut values = Container::new();

@@ -1,4 +1,4 @@
-//! From the used properties of a prim to its values: where the value of each property stands, and what it becomes.
+//! From the used properties of a prim to its values: where the value of each property is, and what it becomes.
 #![tactic(auto)]
 
 mod authoring;
@@ -8,6 +8,3 @@ mod values;
 
 pub use authoring::to_container;
 pub use locating::locators_of;
-
-#[cfg(test)]
-mod tests;

@@ -1,22 +1,20 @@
-//! Where the values of properties stand.
+//! Where the values of properties are.
 
-ghost use Rattle.std.specs.Prelude.{◌≡◌, map, Some, IfOk};
+ghost use Rattle.std.specs.Prelude.{◌≡◌, IfOk};
 ghost use Rattle.std.specs.Option.{option_map};
-ghost use Rattle.hd_usda.specs.Properties.{named_row, locator_of};
+ghost use Rattle.hd_tokens.specs.Properties.{named_property, locator_of};
 ghost use Rattle.hd_schema.specs.Places.{locators_of};
 
 use hd_path::Token;
-use hd_usda::content_of;
+use hd_tokens::locators::xform_op;
+use hd_tokens::{OP_PREFIX, content_of, named_property};
 use hd_value::{Locator, LocatorSet};
 use std::alloc::{AllocError, Global};
 
-/// What an op's name begins with.
-const OP_PREFIX: &str = "xformOp:";
-
-/// The locator at which the value of a used property stands, alone in a set; the empty set for every other name.
+/// The locator of the value of a used property, alone in a set; the empty set for every other name.
 ///
 /// A locator has one token (`visibility`, `purpose`, `binding`), two (as `primvars/points`), or three for an op:
-/// `xform`, `ops` and the text behind `xformOp:`. The call fails for want of memory alone.
+/// `xform`, `ops` and the text after `xformOp:`. The call fails only where it is out of memory.
 #[tactic(auto, using(crate::proofs::Places::inserted_first))]
 pub fn locators_of(alloc: Global, name: &Token) -> Result<LocatorSet, AllocError>
     ensures { IfOk result (λ set. set ≡ locators_of name.now) }
@@ -37,50 +35,18 @@ pub fn locator_of(alloc: Global, name: &str) -> Result<Option<Locator>, AllocErr
             if content_of(name.as_bytes()).is_none() {
                 return Ok(None);
             }
-            place(alloc, &["xform", "ops", rest])
+            Ok(Some(Locator::of(alloc, &xform_op(rest))?))
         }
         None => named_locator(alloc, name),
     }
 }
 
-/// The locator of these tokens.
-fn place(alloc: Global, tokens: &[&str]) -> Result<Option<Locator>, AllocError>
-    ensures { IfOk result (λ at. at ≡ Some (map (λ token. token.now) tokens.now)) }
-{
-    Ok(Some(Locator::of(alloc, tokens)?))
-}
-
 /// The locator of a property that is no op.
 fn named_locator(alloc: Global, name: &str) -> Result<Option<Locator>, AllocError>
-    ensures { IfOk result (λ at. at ≡ option_map (λ r. r.locator) (named_row name.now)) }
+    ensures { IfOk result (λ at. at ≡ option_map (λ p. p.locator) (named_property name.now)) }
 {
-    if name == "points" {
-        place(alloc, &["primvars", "points"])
-    } else if name == "faceVertexCounts" {
-        place(alloc, &["mesh", "counts"])
-    } else if name == "faceVertexIndices" {
-        place(alloc, &["mesh", "indices"])
-    } else if name == "primvars:displayColor" {
-        place(alloc, &["primvars", "displayColor"])
-    } else if name == "primvars:color8" {
-        place(alloc, &["primvars", "color8"])
-    } else if name == "xformOpOrder" {
-        place(alloc, &["xform", "order"])
-    } else if name == "visibility" {
-        place(alloc, &["visibility"])
-    } else if name == "purpose" {
-        place(alloc, &["purpose"])
-    } else if name == "material:binding" {
-        place(alloc, &["binding"])
-    } else if name == "positions" {
-        place(alloc, &["instancer", "positions"])
-    } else if name == "protoIndices" {
-        place(alloc, &["instancer", "protoIndices"])
-    } else if name == "prototypes" {
-        place(alloc, &["instancer", "prototypes"])
-    } else if name == "color8" {
-        place(alloc, &["material", "color8"])
-    } else {
-        Ok(None)
+    match named_property(name.as_bytes()) {
+        Some(property) => Ok(Some(Locator::fixed(alloc, property.locator)?)),
+        None => Ok(None),
     }
 }

@@ -1,12 +1,11 @@
 //! The transform ops that properties give.
 
-ghost use Rattle.std.specs.Prelude.{◌≡◌, ◌≤◌, drop, length};
-ghost use Rattle.std.specs.List.{prefix_len};
-ghost use Rattle.hd_usda.specs.Names.{is_part};
+ghost use Rattle.std.specs.Prelude.{◌≡◌, drop};
 ghost use Rattle.hd_schema.specs.OpValues.{number, triple, matrix, quarters, turns, kind_of, op_of_kind};
 
+use hd_layer::RawValue;
 use hd_num::{Axis, Matrix, Op, Vec3};
-use hd_usda::RawValue;
+use hd_tokens::part_len;
 
 /// The op that a value gives, by the kind in the name of its property.
 pub fn op_of(name: &str, value: &RawValue) -> Option<Op>
@@ -15,23 +14,15 @@ pub fn op_of(name: &str, value: &RawValue) -> Option<Op>
     op_of_kind(kind_of(name.as_bytes()), value)
 }
 
-/// The kind of an op: what stands behind `xformOp:`, up to the next colon.
+/// The kind of an op: what follows `xformOp:`, up to the next colon.
 fn kind_of(name: &[u8]) -> &[u8]
     ensures { result.now ≡ kind_of name.now }
 {
-    let behind = past_prefix(name);
-    &behind[..part_len(behind)]
+    let rest = past_prefix(name);
+    &rest[..part_len(rest)]
 }
 
-/// How many bytes stand before the next colon.
-fn part_len(text: &[u8]) -> usize
-    ensures count { result ≡ prefix_len is_part text.now }
-    ensures bound { result ≤ length text.now }
-{
-    text.iter().take_while(|b| **b != b':').count()
-}
-
-/// What stands behind the eight bytes of `xformOp:`.
+/// What follows the eight bytes of `xformOp:`.
 fn past_prefix(name: &[u8]) -> &[u8]
     ensures { result.now ≡ drop 8 name.now }
 {

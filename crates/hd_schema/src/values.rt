@@ -7,8 +7,9 @@ ghost use Rattle.hd_schema.specs.OpValues.{numbers, triples, triple};
 ghost use Rattle.hd_schema.specs.Values.{words, word, paths, op, attribute_value, content_value, value_of};
 
 use crate::op_values::{op_of, triple};
+use hd_layer::RawValue;
 use hd_num::{List, Rgb, Vec3};
-use hd_usda::{Content, RawValue, Role, content_of};
+use hd_tokens::{AttributeKind, Content, content_of};
 use hd_value::Value;
 use std::alloc::{AllocError, Global};
 
@@ -34,29 +35,32 @@ fn content_value(
     ensures { IfOk result (λ made. made ≡ content_value content name.now value.now) }
 {
     match content {
-        Content::Attribute(role) => attribute_value(alloc, role, name, value),
+        Content::Attribute(kind) => attribute_value(alloc, kind, name, value),
         Content::Targets => path_list(value),
     }
 }
 
-/// The same of an attribute by its role.
+/// The same of an attribute by its kind.
 fn attribute_value(
     alloc: Global,
-    role: Role,
+    kind: AttributeKind,
     name: &str,
     value: &RawValue,
 ) -> Result<Option<Value>, AllocError>
-    ensures { IfOk result (λ made. made ≡ attribute_value role name.now value.now) }
+    ensures { IfOk result (λ made. made ≡ attribute_value kind name.now value.now) }
 {
-    match role {
-        Role::Points => vector_list(value),
-        Role::Numbers => number_list(value),
-        Role::Colors => light_colors(alloc, value),
-        Role::ByteColors => byte_colors(alloc, value),
-        Role::OpOrder => word_list(value),
-        Role::Visibility | Role::Purpose => word(value),
-        Role::Vector | Role::Angle | Role::Angles | Role::Transform => Ok(op(name, value)),
-        Role::ByteColor => Ok(color(value)),
+    match kind {
+        AttributeKind::Points => vector_list(value),
+        AttributeKind::Numbers => number_list(value),
+        AttributeKind::Colors => light_colors(alloc, value),
+        AttributeKind::ByteColors => byte_colors(alloc, value),
+        AttributeKind::OpOrder => word_list(value),
+        AttributeKind::Visibility | AttributeKind::Purpose => word(value),
+        AttributeKind::Vector
+        | AttributeKind::Angle
+        | AttributeKind::Angles
+        | AttributeKind::Transform => Ok(op(name, value)),
+        AttributeKind::ByteColor => Ok(color(value)),
     }
 }
 
@@ -116,14 +120,14 @@ fn op(name: &str, value: &RawValue) -> Option<Value>
     Some(Value::Op(op_of(name, value)?))
 }
 
-/// The only triple, as a colour.
+/// The only triple, as a color.
 fn color(value: &RawValue) -> Option<Value>
     ensures { result ≡ option_map (λ t. Value.Color (byte_color t)) (triple value.now) }
 {
     Some(Value::Color(byte_color(triple(value)?)))
 }
 
-/// Colours by bytes.
+/// Colors by bytes.
 fn byte_colors(alloc: Global, value: &RawValue) -> Result<Option<Value>, AllocError>
     ensures { IfOk result (λ made. made ≡ option_map (λ vs. Value.Colors (map byte_color vs)) (triples value.now)) }
 {
@@ -136,7 +140,7 @@ fn byte_colors(alloc: Global, value: &RawValue) -> Result<Option<Value>, AllocEr
     }
 }
 
-/// Colours that are lit or dark.
+/// Colors that are lit or dark.
 fn light_colors(alloc: Global, value: &RawValue) -> Result<Option<Value>, AllocError>
     ensures { IfOk result (λ made. made ≡ option_map (λ vs. Value.Colors (map light_color vs)) (triples value.now)) }
 {

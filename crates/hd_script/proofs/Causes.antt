@@ -4,14 +4,14 @@ use Rattle.std.specs.Str.{bytes_eq, is_utf8}
 use Rattle.hd_path.specs.declared.fault.PathFault.{PathFault}
 use Rattle.hd_path.specs.declared.fault.PathFault.TheVariants as path
 use Rattle.hd_path.specs.Parsing.{name_at, parsed}
-use Rattle.hd_usda.specs.declared.fault.LayerWhy.{LayerWhy}
-use Rattle.hd_usda.specs.declared.fault.LayerWhy.TheVariants as why
-use Rattle.hd_usda.specs.declared.limits.Which.TheVariants.{Frame}
-use Rattle.hd_usda.specs.declared.spec.Property.{Property}
+use Rattle.hd_layer.specs.declared.fault.LayerWhy.{LayerWhy}
+use Rattle.hd_layer.specs.declared.fault.LayerWhy.TheVariants as why
+use Rattle.hd_layer.specs.declared.limits.Which.TheVariants.{Frame}
+use Rattle.hd_layer.specs.declared.spec.Property.{Property}
 use Rattle.hd_usda.specs.Cursors.{Fault}
-use Rattle.hd_usda.specs.Limits.{limit_of}
-use Rattle.hd_usda.specs.Names.{is_joined}
-use Rattle.hd_usda.specs.Prims.{Path}
+use Rattle.hd_layer.specs.Limits.{limit_of}
+use Rattle.hd_tokens.specs.Names.{is_joined}
+use Rattle.hd_path.specs.Paths.{Path}
 use Rattle.hd_usda.specs.Statements.{reads_property}
 use Rattle.hd_script.specs.declared.command.Command.{Command}
 use Rattle.hd_script.specs.declared.fault.LineFault.{LineFault}

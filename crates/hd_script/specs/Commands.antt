@@ -1,8 +1,8 @@
 -- The commands of a script: what stands in the line of each, word by word, and what the line asks for.
 use Rattle.std.specs.Prelude.{ℕ, List, [], ◌∷◌, Option, Some, None, Result, Ok, Err, if◌then◌else◌, codes}
 use Rattle.std.specs.Str.{bytes_eq, is_utf8}
-use Rattle.hd_usda.specs.declared.edit.Edit.TheVariants.{Define, Set, Clear, Remove, Rename}
-use Rattle.hd_usda.specs.Prims.{Path}
+use Rattle.hd_layer.specs.declared.edit.Edit.TheVariants.{Define, Set, Clear, Remove, Rename}
+use Rattle.hd_path.specs.Paths.{Path}
 use Rattle.hd_script.specs.declared.command.Command.{Command}
 use Rattle.hd_script.specs.declared.command.Command.TheVariants.{Layer, Edit, Commit, Dump, Report, Start, Tiles, Pause, Resume, Stop, Wait}
 use Rattle.hd_script.specs.declared.fault.LineFault.{LineFault}

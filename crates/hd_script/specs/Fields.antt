@@ -7,15 +7,15 @@ use Rattle.hd_path.specs.declared.fault.PathFault.{PathFault}
 use Rattle.hd_path.specs.declared.fault.PathFault.TheVariants as path
 use Rattle.hd_path.specs.Names.{is_digit, is_word}
 use Rattle.hd_path.specs.Parsing.{name_at, parsed}
-use Rattle.hd_usda.specs.declared.fault.LayerWhy.{LayerWhy}
-use Rattle.hd_usda.specs.declared.fault.LayerWhy.TheVariants as why
-use Rattle.hd_usda.specs.declared.limits.Which.TheVariants.{Depth, Name, Frame}
-use Rattle.hd_usda.specs.declared.spec.Property.{Property}
+use Rattle.hd_layer.specs.declared.fault.LayerWhy.{LayerWhy}
+use Rattle.hd_layer.specs.declared.fault.LayerWhy.TheVariants as why
+use Rattle.hd_layer.specs.declared.limits.Which.TheVariants.{Depth, Name, Frame}
+use Rattle.hd_layer.specs.declared.spec.Property.{Property}
 use Rattle.hd_usda.specs.Cursors.{Fault}
-use Rattle.hd_usda.specs.Lexing.{begins}
-use Rattle.hd_usda.specs.Limits.{limit_of}
-use Rattle.hd_usda.specs.Names.{is_joined}
-use Rattle.hd_usda.specs.Prims.{Path}
+use Rattle.hd_lexer.specs.Lexing.{begins}
+use Rattle.hd_layer.specs.Limits.{limit_of}
+use Rattle.hd_tokens.specs.Names.{is_joined}
+use Rattle.hd_path.specs.Paths.{Path}
 use Rattle.hd_usda.specs.Statements.{reads_property}
 use Rattle.hd_script.specs.declared.fault.LineFault.{LineFault}
 use Rattle.hd_script.specs.declared.fault.LineFault.TheVariants.{Syntax, LeftOut, Fraction, Limit}

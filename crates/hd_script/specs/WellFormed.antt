@@ -1,10 +1,10 @@
 -- Commands that a session may be handed.
 use Rattle.std.specs.Prelude.{ℕ, Bool, true, ◌&&◌, nat_le, Option, Some, None}
-use Rattle.hd_usda.specs.declared.limits.Which.TheVariants.{Frame}
-use Rattle.hd_usda.specs.Edits.{is_edit}
-use Rattle.hd_usda.specs.WellFormed.{is_below_root}
-use Rattle.hd_usda.specs.Limits.{limit_of}
-use Rattle.hd_usda.specs.Prims.{Path}
+use Rattle.hd_layer.specs.declared.limits.Which.TheVariants.{Frame}
+use Rattle.hd_layer.specs.Edits.{is_edit}
+use Rattle.hd_layer.specs.WellFormed.{is_below_root}
+use Rattle.hd_layer.specs.Limits.{limit_of}
+use Rattle.hd_path.specs.Paths.{Path}
 use Rattle.hd_script.specs.declared.command.Command.{Command}
 use Rattle.hd_script.specs.declared.command.Command.TheVariants.{Layer, Edit, Commit, Dump, Report, Start, Tiles, Pause, Resume, Stop, Wait}
 

@@ -2,8 +2,8 @@
 
 ghost use Rattle.std.specs.Prelude.{◌≡◌, IfOk};
 
+use hd_layer::Edit;
 use hd_path::{Path, Token};
-use hd_usda::Edit;
 use std::alloc::AllocError;
 
 /// A command of a script.

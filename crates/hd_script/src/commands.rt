@@ -1,7 +1,7 @@
 //! The commands, each by the words behind its name.
 
 ghost use Rattle.std.specs.Prelude.{◌≡◌, IfOk, IsTrue};
-ghost use Rattle.hd_usda.specs.WellFormed.{is_below_root};
+ghost use Rattle.hd_layer.specs.WellFormed.{is_below_root};
 ghost use Rattle.hd_script.specs.Faults.{Gives};
 ghost use Rattle.hd_script.specs.Fields as form;
 ghost use Rattle.hd_script.specs.Commands.{field, ends, alone, layer, define, set, clear, remove, rename, dump, last_path, start, tiles, named_command, command_in};
@@ -11,8 +11,8 @@ use crate::command::Command;
 use crate::fault::LineFault;
 use crate::fields::{file_name, number, prim_path, prim_type, property, property_name, size};
 use crate::words::Words;
+use hd_layer::Edit;
 use hd_path::{Path, Token};
-use hd_usda::Edit;
 use std::alloc::Global;
 
 /// Reads a number.

@@ -3,7 +3,7 @@
 ghost use Rattle.std.specs.Prelude.{◌≡◌};
 ghost use Rattle.hd_script.specs.declared.fault.LineFault.TheVariants.{NoMemory};
 
-use hd_usda::Which;
+use hd_layer::Which;
 use std::alloc::AllocError;
 
 /// Why a line gives no command.

@@ -3,17 +3,19 @@
 ghost use Rattle.std.specs.Prelude.{◌≡◌, IfOk, IsTrue};
 ghost use Rattle.std.specs.List.{list_all};
 ghost use Rattle.hd_path.specs.Names.{is_digit};
-ghost use Rattle.hd_usda.specs.Edits.{may_be_set};
-ghost use Rattle.hd_usda.specs.WellFormed.{is_below_root};
-ghost use Rattle.hd_usda.specs.Lexing.{begins};
-ghost use Rattle.hd_usda.specs.Names.{is_joined};
+ghost use Rattle.hd_layer.specs.Edits.{may_be_set};
+ghost use Rattle.hd_layer.specs.WellFormed.{is_below_root};
+ghost use Rattle.hd_lexer.specs.Lexing.{begins};
+ghost use Rattle.hd_tokens.specs.Names.{is_joined};
 ghost use Rattle.hd_script.specs.Faults.{Gives};
 ghost use Rattle.hd_script.specs.Fields.{is_number, number, within_frame, size, is_name_byte, is_point, is_file_name, file_name, identifier, prim_type, below_root, prim_path, property_name, property_fault, property};
 ghost use Rattle.hd_script.specs.WellFormed.{is_size};
 
 use crate::fault::LineFault;
+use hd_layer::{LayerFault, LayerWhy, Property, Which};
 use hd_path::{Path, PathFault, Token, identifier_len, is_word};
-use hd_usda::{LayerFault, LayerWhy, Property, Which, is_joined, read_property};
+use hd_tokens::is_joined;
+use hd_usda::read_property;
 use std::alloc::Global;
 
 /// The most digits of a number.

@@ -13,6 +13,3 @@ pub use command::Command;
 pub use fault::LineFault;
 pub use laws::lines_want_no_memory;
 pub use read::read_line;
-
-#[cfg(test)]
-mod tests;

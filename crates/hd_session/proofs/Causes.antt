@@ -4,8 +4,8 @@ use Rattle.std.specs.Prelude.{nat_lt}
 use Rattle.std.specs.List.{list_any}
 use Rattle.std.specs.FinMap.{get, contains_key, keys}
 use Rattle.hd_value.specs.Locators.{is_prefix}
-use Rattle.hd_usda.specs.declared.edit.Edit.{Edit}
-use Rattle.hd_usda.specs.declared.edit.Edit.TheVariants.{Define, Set, Clear, Remove, Rename}
+use Rattle.hd_layer.specs.declared.edit.Edit.{Edit}
+use Rattle.hd_layer.specs.declared.edit.Edit.TheVariants.{Define, Set, Clear, Remove, Rename}
 use Rattle.hd_script.specs.declared.command.Command as commands
 use Rattle.hd_script.specs.declared.command.Command.TheVariants as command
 use Rattle.hd_retained.specs.declared.fault.EditFault.{EditFault}

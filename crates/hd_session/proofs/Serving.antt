@@ -1,6 +1,6 @@
 -- What a part of a session answers makes the refusal of its command.
 use Rattle.std.proofs.Common.{◌≡◌, ℕ, List, Option, Result, Err, refl, sym, ap, subst, inl, inr}
-use Rattle.hd_usda.specs.declared.edit.Edit.{Edit}
+use Rattle.hd_layer.specs.declared.edit.Edit.{Edit}
 use Rattle.hd_io.specs.declared.fault.OutsideFault.{OutsideFault}
 use Rattle.hd_io.specs.declared.fault.OutsideFault.TheVariants as outside_fault
 use Rattle.hd_io.specs.Acts.{Outside, outside}

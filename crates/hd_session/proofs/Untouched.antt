@@ -7,11 +7,11 @@ use Rattle.std.specs.Ordering.{eq_by_cmp}
 use Rattle.std.specs.FinMap.{get, insert, keys, contains_key, retain_keys, empty, get-insert}
 use Rattle.std.specs.BTreeSet as set
 use Rattle.std.specs.BTreeSet.{BTreeSet}
-use Rattle.hd_usda.specs.declared.edit.Edit.{Edit}
-use Rattle.hd_usda.specs.declared.edit.Edit.TheVariants.{Define, Set, Clear, Remove, Rename}
-use Rattle.hd_usda.specs.declared.limits.Which.TheVariants.{Prims, Depth}
-use Rattle.hd_usda.specs.Edits.{is_edit}
-use Rattle.hd_usda.specs.WellFormed.{is_below_root}
+use Rattle.hd_layer.specs.declared.edit.Edit.{Edit}
+use Rattle.hd_layer.specs.declared.edit.Edit.TheVariants.{Define, Set, Clear, Remove, Rename}
+use Rattle.hd_layer.specs.declared.limits.Which.TheVariants.{Prims, Depth}
+use Rattle.hd_layer.specs.Edits.{is_edit}
+use Rattle.hd_layer.specs.WellFormed.{is_below_root}
 use Rattle.hd_value.specs.Locators.{is_prefix}
 use Rattle.std.proofs.lemmas.Bool.{and_parts}
 use Rattle.hd_path.specs.Paths.{path_cmp}

@@ -1,7 +1,7 @@
 -- What follows from the definitions.
 use Rattle.std.specs.Prelude.{◌≡◌, [], Bool, true, false, Err}
 use Rattle.hd_io.specs.Acts.{Outside, Adds}
-use Rattle.hd_usda.specs.declared.limits.Which.TheVariants.{Prims, Depth}
+use Rattle.hd_layer.specs.declared.limits.Which.TheVariants.{Prims, Depth}
 use Rattle.hd_script.specs.declared.command.Command as commands
 use Rattle.hd_script.specs.declared.command.Command.TheVariants as command
 use Rattle.hd_session.specs.declared.refusal.ScriptWhy.TheVariants.{NoPrim, PrimThere, UnderItself, NoLayer, Later}

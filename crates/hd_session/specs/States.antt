@@ -1,7 +1,7 @@
 -- What a script changes, line by line.
 use Rattle.std.specs.Prelude.{ℕ, List, Bool, map, refl}
 use Rattle.std.specs.Coded.{Coded, code_by, coded×, coded_ℕ, coded_list, coded_bool}
-use Rattle.hd_usda.specs.declared.spec.LayerSpec.{LayerSpec}
+use Rattle.hd_layer.specs.declared.spec.LayerSpec.{LayerSpec}
 use Rattle.hd_retained.specs.Layers.{Layer, layer_code, layer_of}
 
 -- the layers, of which the first is the strongest; the number of the one that edits change; and the number of commits

@@ -1,7 +1,7 @@
 -- The paths at which an edit of a layer may change the kind of a prim.
 use Rattle.std.specs.Prelude.{◌≡◌, ℕ, List, [], ◌∷◌}
-use Rattle.hd_usda.specs.declared.edit.Edit.{Edit}
-use Rattle.hd_usda.specs.declared.edit.Edit.TheVariants.{Define, Set, Clear, Remove, Rename}
+use Rattle.hd_layer.specs.declared.edit.Edit.{Edit}
+use Rattle.hd_layer.specs.declared.edit.Edit.TheVariants.{Define, Set, Clear, Remove, Rename}
 use Rattle.hd_retained.specs.Layers.{Layer, ArePathsFrom}
 
 -- the paths are those at which the edit puts a prim, or takes one away, by the layer before it

@@ -2,17 +2,17 @@
 
 ghost use Rattle.std.specs.Prelude.{◌≡◌, ◌<◌, length, Ok, OnOk, IfOk, IfErr, IsTrue};
 ghost use Rattle.std.specs.BTreeSet as set;
-ghost use Rattle.hd_usda.specs.Edits.{is_edit};
+ghost use Rattle.hd_layer.specs.Edits.{is_edit};
 ghost use Rattle.hd_retained.specs.Edits.{IsRefusal};
 ghost use Rattle.hd_stack.specs.Stacks.{composed, layer_at, edited_at};
 ghost use Rattle.hd_session.specs.Rows.{row_paths};
 ghost use Rattle.hd_session.specs.Touched.{AreTouchedBefore, AreTouchedAfter};
 
 use crate::rows::update_all;
+use hd_layer::Edit;
 use hd_path::Path;
 use hd_retained::EditFault;
 use hd_stack::Stack;
-use hd_usda::Edit;
 use std::alloc::{AllocError, Global};
 use std::collections::BTreeSet;
 

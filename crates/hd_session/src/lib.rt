@@ -11,6 +11,3 @@ mod session;
 pub use laws::{other_commands_are_later, refused_steps_write_nothing, steps_have_own_causes};
 pub use refusal::{Refusal, ScriptWhy};
 pub use session::Session;
-
-#[cfg(test)]
-mod tests;

@@ -5,8 +5,8 @@ ghost use Rattle.hd_session.specs.Steps.{edit_refusal};
 ghost use Rattle.hd_session.specs.Answers.{write_refusal};
 
 use hd_io::OutsideFault;
+use hd_layer::Which;
 use hd_retained::EditFault;
-use hd_usda::Which;
 
 /// What is wrong with a line of a script, or with its command in the state that it meets.
 #[derive(Clone, Copy, Debug, PartialEq, Eq)]

@@ -2,7 +2,7 @@
 
 ghost use Rattle.std.specs.Prelude.{◌≡◌, ◌<◌, ◌≤◌, true, false, All, IfOk, OnOk, IfErr, OnErr, IsTrue, vec_len};
 ghost use Rattle.hd_io.specs.Acts.{outside};
-ghost use Rattle.hd_usda.specs.WellFormed.{is_layer};
+ghost use Rattle.hd_layer.specs.WellFormed.{is_layer};
 ghost use Rattle.hd_script.specs.WellFormed.{is_command};
 ghost use Rattle.hd_session.specs.Answers.{Does, Refuses};
 ghost use Rattle.hd_session.specs.declared.refusal.Refusal.TheVariants.{Script};
@@ -15,10 +15,10 @@ use crate::lines::commit;
 use crate::refusal::{Refusal, ScriptWhy};
 use crate::rows::rows_of;
 use hd_io::{Rack, Sink};
+use hd_layer::LayerSpec;
 use hd_path::Path;
 use hd_script::Command;
 use hd_stack::Stack;
-use hd_usda::LayerSpec;
 use std::alloc::{AllocError, Global};
 use std::collections::BTreeSet;
 use std::marker::Model;

@@ -2,8 +2,8 @@
 use Rattle.std.proofs.Common.{◌≡◌, List, ◌++◌, map, ap, sym, ◌∙◌}
 use Rattle.std.proofs.lemmas.List.{map-append}
 use Rattle.std.proofs.lemmas.List.Elements.{All-map}
-use Rattle.hd_value.specs.Shapes.{is_authored}
-use Rattle.hd_scene.specs.Scenes.{IsShapedBy}
+use Rattle.hd_value.specs.Schema.{is_authored}
+use Rattle.hd_scene.specs.Scenes.{SceneConforms}
 use Rattle.hd_retained.specs.Layers.{Layer, scene_of}
 use Rattle.hd_merging.specs.Merges.{merged}
 use Rattle.hd_merging.proofs.Together.{merged-one, merged-further}
@@ -24,5 +24,5 @@ composed-further stronger weaker = merged-further (map scene_of stronger) (map s
 
 pub composed-first : ComposesStrongerFirst
 composed-first stronger weaker sound =
-    merged-first is_authored (map scene_of stronger) (map scene_of weaker) authored_unnested (All-map (IsShapedBy is_authored) scene_of stronger (λ k d l. (sound k d l).shaped))
+    merged-first is_authored (map scene_of stronger) (map scene_of weaker) authored_unnested (All-map (SceneConforms is_authored) scene_of stronger (λ k d l. (sound k d l).conforms))
     ∙ scenes-append stronger weaker

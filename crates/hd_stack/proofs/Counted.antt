@@ -10,12 +10,12 @@ use Rattle.std.specs.Prelude.{nat_le, slice_get}
 use Rattle.std.specs.declared.cmp.Ordering.{Ordering}
 use Rattle.std.specs.Option.{option_map}
 use Rattle.std.specs.FinMap.{FinMap, empty, get, contains_key, insert, retain_keys, entries, keys, from_entries, len, len-empty, len-entries, len-insert, contains_key-keys}
-use Rattle.hd_usda.specs.declared.edit.Edit.{Edit}
-use Rattle.hd_usda.specs.declared.edit.Edit.TheVariants.{Define, Set, Clear, Remove, Rename}
-use Rattle.hd_usda.specs.declared.limits.Which.TheVariants.{Prims, Depth}
-use Rattle.hd_usda.specs.declared.spec.LayerSpec.{LayerSpec}
-use Rattle.hd_usda.specs.Limits.{limit_of}
-use Rattle.hd_usda.specs.WellFormed.{is_layer}
+use Rattle.hd_layer.specs.declared.edit.Edit.{Edit}
+use Rattle.hd_layer.specs.declared.edit.Edit.TheVariants.{Define, Set, Clear, Remove, Rename}
+use Rattle.hd_layer.specs.declared.limits.Which.TheVariants.{Prims, Depth}
+use Rattle.hd_layer.specs.declared.spec.LayerSpec.{LayerSpec}
+use Rattle.hd_layer.specs.Limits.{limit_of}
+use Rattle.hd_layer.specs.WellFormed.{is_layer}
 use Rattle.hd_path.specs.Paths.{path_cmp}
 use Rattle.hd_value.specs.Locators.{is_prefix}
 use Rattle.hd_value.proofs.Prefixes.{and_true}

@@ -3,7 +3,7 @@ use Rattle.std.proofs.Common.{◌≡◌, inl, inr, ℕ, List, Some, Result, Ok, 
 use Rattle.std.proofs.lemmas.Option.{get_or_from_slice_get}
 use Rattle.std.proofs.Math.Seq.{map-set_same}
 use Rattle.std.specs.Prelude.{slice_get, slice_set, IfErr, OnErr, IsErrAnd}
-use Rattle.hd_usda.specs.declared.edit.Edit.{Edit}
+use Rattle.hd_layer.specs.declared.edit.Edit.{Edit}
 use Rattle.hd_retained.specs.Edits.{State, edited, IsRefusal}
 use Rattle.hd_retained.specs.Layers.{Layer}
 use Rattle.hd_retained.specs.declared.fault.EditFault.{EditFault}

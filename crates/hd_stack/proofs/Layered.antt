@@ -7,15 +7,15 @@ use Rattle.std.proofs.lemmas.Option.{slice_get-map, get_or_from_slice_get}
 use Rattle.std.specs.Prelude.{All, slice_get, slice_set}
 use Rattle.std.specs.FinMap.{empty}
 use Rattle.std.specs.Option.{option_map}
-use Rattle.hd_usda.specs.declared.spec.LayerSpec.{LayerSpec}
-use Rattle.hd_value.specs.Shapes.{is_authored, is_instanced}
-use Rattle.hd_scene.specs.Scenes.{Scene, IsClosed, IsShapedBy}
+use Rattle.hd_layer.specs.declared.spec.LayerSpec.{LayerSpec}
+use Rattle.hd_value.specs.Schema.{is_authored, is_instanced}
+use Rattle.hd_scene.specs.Scenes.{Scene, IsClosed, SceneConforms}
 use Rattle.hd_retained.specs.Edits.{State}
 use Rattle.hd_retained.specs.Layers.{Layer, layer_of, scene_of}
 use Rattle.hd_merging.specs.Merges.{merged}
-use Rattle.hd_merging.proofs.Shaping.{merged_shaped}
-use Rattle.hd_usda.specs.declared.limits.Which.TheVariants.{Layers}
-use Rattle.hd_usda.specs.Limits.{limit_of}
+use Rattle.hd_merging.proofs.Conforming.{merged_conforms}
+use Rattle.hd_layer.specs.declared.limits.Which.TheVariants.{Layers}
+use Rattle.hd_layer.specs.Limits.{limit_of}
 use Rattle.hd_stack.specs.Stacks.{composed, layer_at, IsSound, IsStack, AreSound}
 
 abbrev pub layers_of : List State → List Layer
@@ -31,22 +31,22 @@ or_first : (a b : Bool) → a ≡ true → (a || b) ≡ true
 or_first a b h = ap (λ t. t || b) h
 
 -- what a layer authors may stand behind instancing
-pub shaped_more : (scene : Scene) → IsShapedBy is_authored scene → IsShapedBy is_instanced scene
-shaped_more scene shaped path e there at v is = or_first (is_authored at v) _ (shaped path e there at v is)
+pub conforms_more : (scene : Scene) → SceneConforms is_authored scene → SceneConforms is_instanced scene
+conforms_more scene conforms path e there at v is = or_first (is_authored at v) _ (conforms path e there at v is)
 
 pub inputs_closed : (inputs : List State) → AreSound (layers_of inputs) → All (λ (r : State). IsClosed (scene_of r.layer)) inputs
 inputs_closed [] all k d l = absurd (omega (arith, l))
 inputs_closed (r ∷ inputs) all zero d l = (all 0 r.layer (omega arith)).closed
 inputs_closed (r ∷ inputs) all (suc k) d l = inputs_closed inputs (λ j e m. all (suc j) e (omega (arith, m))) k d (omega (arith, l))
 
-layers_shaped : (layers : List Layer) → AreSound layers → All (IsShapedBy is_instanced) (map scene_of layers)
-layers_shaped layers all = All-map (IsShapedBy is_instanced) scene_of layers (λ k d l. shaped_more (scene_of (slice_index_or layers k d)) (all k d l).shaped)
+layers_conform : (layers : List Layer) → AreSound layers → All (SceneConforms is_instanced) (map scene_of layers)
+layers_conform layers all = All-map (SceneConforms is_instanced) scene_of layers (λ k d l. conforms_more (scene_of (slice_index_or layers k d)) (all k d l).conforms)
 
-pub composed_shaped : (layers : List Layer) → AreSound layers → IsShapedBy is_instanced (composed layers)
-composed_shaped layers all = merged_shaped is_instanced (map scene_of layers) (layers_shaped layers all)
+pub composed_conforms : (layers : List Layer) → AreSound layers → SceneConforms is_instanced (composed layers)
+composed_conforms layers all = merged_conforms is_instanced (map scene_of layers) (layers_conform layers all)
 
-pub terminal_shaped : (inputs : List State) → AreSound (layers_of inputs) → IsShapedBy is_instanced (merged (scenes_of inputs))
-terminal_shaped inputs all = subst (λ (ss : List Scene). IsShapedBy is_instanced (merged ss)) (fused inputs) (composed_shaped (layers_of inputs) all)
+pub terminal_conforms : (inputs : List State) → AreSound (layers_of inputs) → SceneConforms is_instanced (merged (scenes_of inputs))
+terminal_conforms inputs all = subst (λ (ss : List Scene). SceneConforms is_instanced (merged ss)) (fused inputs) (composed_conforms (layers_of inputs) all)
 
 -- the layer of the input of a number
 pub input_layer : (inputs : List State) (k : ℕ) (r : State) → slice_get inputs k ≡ Some r → layer_at (layers_of inputs) k ≡ r.layer

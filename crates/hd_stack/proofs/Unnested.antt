@@ -2,24 +2,21 @@
 use Rattle.std.proofs.Common.{◌≡◌, ℕ, Bool, true, false, not, ◌&&◌, ◌||◌, List, [], ◌∷◌, codes, refl, ap, sym, subst, ◌∙◌}
 use Rattle.std.specs.List.{list_all}
 use Rattle.hd_path.specs.Comparing.{names_same}
+use Rattle.hd_tokens.specs.Locators.{op_at}
 use Rattle.hd_value.specs.declared.value.Value.{Value}
 use Rattle.hd_value.specs.declared.value.Value.TheVariants.{Token, Tokens, Ints, Vecs, Color, Colors, Paths, Op, Matrix, Out, Flag}
 use Rattle.hd_value.specs.Locators.{is_same, is_prefix}
-use Rattle.hd_value.specs.Shapes.{Row, two, allows, passed_rows, flattened_away_rows, is_named_op, is_authored}
+use Rattle.hd_value.specs.Schema.{Row, allows, passed_rows, flattened_away_rows, is_named_op, is_authored}
 use Rattle.hd_value.proofs.Prefixes.{and_true, same_text}
 use Rattle.hd_merging.specs.Laws.{IsUnnested}
 use Rattle.hd_flattening.proofs.Placing.{same, true_is_not}
 use Rattle.hd_flattening.proofs.Building.{row_of_value}
 
--- `xform`, `ops` and the name of an op
-abbrev below_ops : List ℕ → List (List ℕ)
-below_ops name = codes "xform" ∷ codes "ops" ∷ name ∷ []
-
-named_op : (at : List (List ℕ)) (v : Value) → is_named_op at v ≡ true → (name : List ℕ) × (at ≡ below_ops name)
+named_op : (at : List (List ℕ)) (v : Value) → is_named_op at v ≡ true → (name : List ℕ) × (at ≡ op_at name)
 named_op (a ∷ b ∷ name ∷ []) (Op op) e =
-    let both = and_true (is_prefix (two (codes "xform") (codes "ops")) (a ∷ b ∷ [])) _ e in
-    let first = and_true (is_same (codes "xform") a) (is_same (codes "ops") b && true) both.0 in
-    let second = and_true (is_same (codes "ops") b) true first.1 in
+    let both = and_true (is_prefix (op_at name) (a ∷ b ∷ name ∷ [])) _ e in
+    let first = and_true (is_same (codes "xform") a) (is_prefix (codes "ops" ∷ name ∷ []) (b ∷ name ∷ [])) both.0 in
+    let second = and_true (is_same (codes "ops") b) (is_prefix (name ∷ []) (name ∷ [])) first.1 in
     (name, ap (λ (w : List ℕ). w ∷ b ∷ name ∷ []) (sym (same_text (codes "xform") a first.0)) ∙ ap (λ (w : List ℕ). codes "xform" ∷ w ∷ name ∷ []) (sym (same_text (codes "ops") b second.0)))
 named_op (a ∷ b ∷ name ∷ []) (Token t) e = true_is_not (sym e)
 named_op (a ∷ b ∷ name ∷ []) (Tokens ts) e = true_is_not (sym e)
@@ -41,7 +38,7 @@ abbrev of_each : (List (List ℕ) → Bool) → List Row → Bool
 of_each test rows = list_all (λ (row : Row). test row.0) rows
 
 -- what holds of the locators of the rows and of the ops holds where a text can author a value
-module _ (test : List (List ℕ) → Bool) (passed : of_each test passed_rows ≡ true) (away : of_each test flattened_away_rows ≡ true) (op : (name : List ℕ) → test (below_ops name) ≡ true) where
+module _ (test : List (List ℕ) → Bool) (passed : of_each test passed_rows ≡ true) (away : of_each test flattened_away_rows ≡ true) (op : (name : List ℕ) → test (op_at name) ≡ true) where
   authored_passes : (at : List (List ℕ)) (v : Value) → is_authored at v ≡ true → test at ≡ true
   authored_passes at v e =
       either (allows passed_rows at v || allows flattened_away_rows at v) (is_named_op at v)
@@ -57,13 +54,13 @@ module _ (test : List (List ℕ) → Bool) (passed : of_each test passed_rows �
 abbrev apart : List (List ℕ) → List (List ℕ) → Bool
 apart a b = not (is_prefix a b) || same a b
 
-ops_apart : (name other : List ℕ) → apart (below_ops name) (below_ops other) ≡ true
+ops_apart : (name other : List ℕ) → apart (op_at name) (op_at other) ≡ true
 ops_apart name other = elim (is_same name other) as (λ b. (not (b && true) || (b && true)) ≡ true) [ true ↦ refl | false ↦ refl ]
 
 pub authored_unnested : IsUnnested is_authored
 authored_unnested a b v w above below prefix =
     let passed : of_each (λ (p : List (List ℕ)). apart p b) passed_rows ≡ true = authored_passes (λ q. of_each (λ p. apart p q) passed_rows) refl refl (λ name. refl) b w below in
     let away : of_each (λ (p : List (List ℕ)). apart p b) flattened_away_rows ≡ true = authored_passes (λ q. of_each (λ p. apart p q) flattened_away_rows) refl refl (λ name. refl) b w below in
-    let op : (name : List ℕ) → apart (below_ops name) b ≡ true = λ name. authored_passes (λ q. apart (below_ops name) q) refl refl (ops_apart name) b w below in
+    let op : (name : List ℕ) → apart (op_at name) b ≡ true = λ name. authored_passes (λ q. apart (op_at name) q) refl refl (ops_apart name) b w below in
     let both : (not (is_prefix a b) || same a b) ≡ true = authored_passes (λ p. apart p b) passed away op a v above in
     names_same a b (subst (λ t. (not t || same a b) ≡ true) prefix both)

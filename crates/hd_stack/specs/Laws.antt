@@ -1,9 +1,9 @@
 -- What follows from the definitions.
 use Rattle.std.specs.Prelude.{◌≡◌, ◌≤◌, ◌*◌, ℕ, List, [], ◌∷◌, ◌++◌, length, map}
 use Rattle.std.specs.FinMap.{len}
-use Rattle.hd_usda.specs.declared.limits.Which.TheVariants.{Prims}
-use Rattle.hd_usda.specs.Limits.{limit_of}
-use Rattle.hd_value.specs.Shapes.{is_authored}
+use Rattle.hd_layer.specs.declared.limits.Which.TheVariants.{Prims}
+use Rattle.hd_layer.specs.Limits.{limit_of}
+use Rattle.hd_value.specs.Schema.{is_authored}
 use Rattle.hd_scene.specs.Scenes.{value_at}
 use Rattle.hd_retained.specs.Layers.{Layer, scene_of}
 use Rattle.hd_merging.specs.Merges.{merged}

@@ -2,11 +2,11 @@
 use Rattle.std.specs.Prelude.{ℕ, ◌≤◌, List, length, map, All, Result, Ok, Err, slice_index_or, slice_set, refl}
 use Rattle.std.specs.Coded.{Coded, code_by, coded×, coded_ℕ, coded_list}
 use Rattle.std.specs.FinMap.{empty, len}
-use Rattle.hd_usda.specs.declared.edit.Edit.{Edit}
-use Rattle.hd_usda.specs.declared.limits.Which.TheVariants.{Layers, Prims}
-use Rattle.hd_usda.specs.Limits.{limit_of}
-use Rattle.hd_value.specs.Shapes.{is_authored}
-use Rattle.hd_scene.specs.Scenes.{Scene, IsClosed, IsShapedBy}
+use Rattle.hd_layer.specs.declared.edit.Edit.{Edit}
+use Rattle.hd_layer.specs.declared.limits.Which.TheVariants.{Layers, Prims}
+use Rattle.hd_layer.specs.Limits.{limit_of}
+use Rattle.hd_value.specs.Schema.{is_authored}
+use Rattle.hd_scene.specs.Scenes.{Scene, IsClosed, SceneConforms}
 use Rattle.hd_retained.specs.declared.fault.EditFault.{EditFault}
 use Rattle.hd_retained.specs.Layers.{Layer, layer_code, scene_of}
 use Rattle.hd_retained.specs.Edits.{State, edited}
@@ -48,7 +48,7 @@ edited_at layers number edit = with_layer layers number (edited (layer_at layers
 -- prims than a layer may have
 pub record IsSound (layer : Layer) : Type 0 where
   pub closed : IsClosed (scene_of layer)
-  pub shaped : IsShapedBy is_authored (scene_of layer)
+  pub conforms : SceneConforms is_authored (scene_of layer)
   pub few : len layer ≤ limit_of Prims
 
 abbrev pub AreSound : List Layer → Type 0

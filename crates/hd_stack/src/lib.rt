@@ -6,6 +6,3 @@ mod stack;
 
 pub use laws::{composing_is_associative, scenes_are_bounded, the_strongest_value_stands};
 pub use stack::{Stack, Terminal};
-
-#[cfg(test)]
-mod tests;

@@ -1,10 +1,10 @@
 //! A stack of layers, merged and flattened.
 
 ghost use Rattle.std.specs.Prelude.{◌≡◌, ◌<◌, ◌≤◌, length, map, All, Ok, OnOk, OnErr, IfOk, IfErr, IsTrue, option_copied, vec_len};
-ghost use Rattle.hd_usda.specs.Edits.{is_edit};
-ghost use Rattle.hd_usda.specs.Limits.{limit_of};
-ghost use Rattle.hd_usda.specs.WellFormed.{is_layer};
-ghost use Rattle.hd_usda.specs.declared.limits.Which.TheVariants.{Layers};
+ghost use Rattle.hd_layer.specs.Edits.{is_edit};
+ghost use Rattle.hd_layer.specs.Limits.{limit_of};
+ghost use Rattle.hd_layer.specs.WellFormed.{is_layer};
+ghost use Rattle.hd_layer.specs.declared.limits.Which.TheVariants.{Layers};
 ghost use Rattle.hd_scene.specs.Scenes.{kind_at};
 ghost use Rattle.hd_retained.specs.Edits.{IsRefusal};
 ghost use Rattle.hd_retained.specs.Layers.{layer_of, ArePathsFrom};
@@ -12,12 +12,12 @@ ghost use Rattle.hd_stack.specs.Kinds.{is_named, kind_over};
 ghost use Rattle.hd_stack.specs.Stacks.{composed, terminal_scene, layers_in, layer_at, edited_at, IsSound, IsStack, AreSound};
 
 use hd_flattening::Flattening;
+use hd_layer::{Edit, LayerSpec};
 use hd_merging::Merging;
 use hd_num::List;
 use hd_path::{Path, Token};
 use hd_retained::{EditFault, Layer, Retained};
 use hd_scene::{Prim, SceneIndex};
-use hd_usda::{Edit, LayerSpec};
 use std::alloc::{AllocError, Global};
 use std::marker::Model;
 
@@ -148,7 +148,7 @@ fn input_of(alloc: Global, layer: LayerSpec) -> Result<Retained, AllocError>
 {
     let input = Retained::from_layer(alloc, layer)?;
     input.is_in_step();
-    input.is_shaped();
+    input.conforms();
     Ok(input)
 }
 
@@ -171,7 +171,7 @@ fn edit_input(
     let input = terminal.input_mut().input_mut(layer);
     let done = input.edit(alloc, edit);
     input.is_in_step();
-    input.is_shaped();
+    input.conforms();
     done?;
     Ok(())
 }

@@ -1,8 +1,8 @@
 -- What the answer of a form says of the forms in it.
 use Rattle.std.proofs.Common.{◌≡◌, ℕ, zero, suc, Result, Ok, Err, Bool, true, false, if◌then◌else◌, ◌⊎◌, inl, inr, refl, ap, subst}
-use Rattle.hd_usda.specs.declared.lexer.Kind.{Kind}
-use Rattle.hd_usda.specs.declared.fault.LayerWhy.TheVariants.{Syntax}
-use Rattle.hd_usda.specs.Lexing.{Tokens}
+use Rattle.hd_lexer.specs.declared.lexer.Kind.{Kind}
+use Rattle.hd_layer.specs.declared.fault.LayerWhy.TheVariants.{Syntax}
+use Rattle.hd_lexer.specs.Lexing.{Tokens}
 use Rattle.hd_usda.specs.Cursors.{◌>>=◌, Fault, is, rest, count, fault_at}
 use Rattle.hd_usda.specs.Loops.{all, all_by}
 

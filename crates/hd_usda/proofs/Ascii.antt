@@ -7,10 +7,8 @@ use Rattle.std.proofs.lemmas.Str.Ascii.{IsAscii-nil, IsAscii-cons}
 use Rattle.std.specs.List.{list_all, prefix_len, slice_split, onto_first, starts_with}
 use Rattle.hd_path.specs.Names.{is_letter, is_word, is_identifier}
 use Rattle.hd_path.specs.Parsing.{is_slash}
-use Rattle.hd_usda.specs.Lexing.{is_no_word}
-use Rattle.hd_usda.specs.Names.{is_plain_word, is_colon, is_joined}
-use Rattle.hd_usda.specs.Metadata.{is_any}
-use Rattle.hd_usda.specs.Properties.{visibilities, purposes, kind_role, first_part, op_role, is_used, is_op_entry}
+use Rattle.hd_tokens.specs.Names.{is_non_finite_word, is_plain_word, is_colon, is_joined, is_any}
+use Rattle.hd_tokens.specs.Properties.{visibilities, purposes, op_value_kind, first_part, op_kind_of, is_used, is_op_entry}
 use Rattle.hd_usda.specs.Targets.{are_identifiers, is_prim_path}
 
 -- the test of it
@@ -88,7 +86,7 @@ joined_ascii : (text : List ℕ) → is_joined text ≡ true → IsAscii text
 joined_ascii text h = tested text (split_ascii is_colon colon_below text (weaker is_plain_word is_ascii plain (slice_split is_colon text) h))
   where
     plain : (bs : List ℕ) → is_plain_word bs ≡ true → is_ascii bs ≡ true
-    plain bs h = identifier_test bs (and_parts (is_identifier bs) (not (is_no_word bs)) h).0
+    plain bs h = identifier_test bs (and_parts (is_identifier bs) (not (is_non_finite_word bs)) h).0
 
 pub prim_path_ascii : (text : List ℕ) → is_prim_path text ≡ true → IsAscii text
 prim_path_ascii [] h = IsAscii-nil
@@ -114,9 +112,9 @@ visibility_ascii text h = any_ascii visibilities text refl h
 pub purpose_ascii : (text : List ℕ) → is_any purposes text ≡ true → IsAscii text
 purpose_ascii text h = any_ascii purposes text refl h
 
-op_ascii : (text : List ℕ) → is_used (op_role text) ≡ true → IsAscii text
-unfolding op_role
-op_ascii text h = joined_ascii text (used (starts_with nat_eq text (codes "xformOp:")) (is_joined text) (kind_role (first_part (drop 8 text))) h)
+op_ascii : (text : List ℕ) → is_used (op_kind_of text) ≡ true → IsAscii text
+unfolding op_kind_of
+op_ascii text h = joined_ascii text (used (starts_with nat_eq text (codes "xformOp:")) (is_joined text) (op_value_kind (first_part (drop 8 text))) h)
   where
     used : (a b : Bool) (role : _) → is_used (if a && b then role else None) ≡ true → b ≡ true
     used true true role h = refl
@@ -126,6 +124,6 @@ op_ascii text h = joined_ascii text (used (starts_with nat_eq text (codes "xform
 pub op_entry_ascii : (first : Bool) (text : List ℕ) → is_op_entry first text ≡ true → IsAscii text
 op_entry_ascii first text h = by_test (first && bytes_eq text (codes "!resetXformStack!")) refl h
   where
-    by_test : (reset : Bool) → (first && bytes_eq text (codes "!resetXformStack!")) ≡ reset → (reset || is_used (op_role text)) ≡ true → IsAscii text
+    by_test : (reset : Bool) → (first && bytes_eq text (codes "!resetXformStack!")) ≡ reset → (reset || is_used (op_kind_of text)) ≡ true → IsAscii text
     by_test true is h = equal_ascii text (codes "!resetXformStack!") refl (and_parts first (bytes_eq text (codes "!resetXformStack!")) is).1
     by_test false is h = op_ascii text h

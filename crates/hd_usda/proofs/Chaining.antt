@@ -1,9 +1,9 @@
 -- A loop that reads one form behind each separator: `while reader.passes(sep) { form(reader, &mut state)?; }`.
 use Rattle.std.proofs.Common.{◌≡◌, ℕ, zero, suc, ◌<◌, ◌≤◌, List, [], ◌∷◌, length, Result, Ok, Err, Bool, true, false, if◌then◌else◌, refl, sym, ap, ◌∙◌, arith}
-use Rattle.hd_usda.specs.declared.lexer.Kind.{Kind}
-use Rattle.hd_usda.specs.declared.fault.LayerFault.{LayerFault}
-use Rattle.hd_usda.specs.declared.fault.LayerFault.TheVariants as faults
-use Rattle.hd_usda.specs.Lexing.{Tokens, Token}
+use Rattle.hd_lexer.specs.declared.lexer.Kind.{Kind}
+use Rattle.hd_layer.specs.declared.fault.LayerFault.{LayerFault}
+use Rattle.hd_layer.specs.declared.fault.LayerFault.TheVariants as faults
+use Rattle.hd_lexer.specs.Lexing.{Tokens, Token}
 use Rattle.hd_usda.specs.Cursors.{is, rest, count, tail, Fault, fault_in, Fails}
 use Rattle.hd_usda.specs.Loops.{chain, chain_by}
 

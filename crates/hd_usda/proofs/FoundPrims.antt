@@ -3,14 +3,14 @@ use Rattle.std.proofs.Common.{◌≡◌, ℕ, suc, ◌+◌, ◌-◌, ◌<◌, �
 use Rattle.std.proofs.lemmas.Bool.{and_from, or_cases, or_left, or_right, le-leb, eq-eqb}
 use Rattle.std.specs.List.{list_all}
 use Rattle.std.specs.Ordering.{is_eq}
-use Rattle.hd_usda.specs.declared.limits.Which.TheVariants.{Prims}
-use Rattle.hd_usda.specs.declared.spec.PrimSpec.{PrimSpec}
-use Rattle.hd_usda.specs.Limits.{limit_of}
+use Rattle.hd_layer.specs.declared.limits.Which.TheVariants.{Prims}
+use Rattle.hd_layer.specs.declared.spec.PrimSpec.{PrimSpec}
+use Rattle.hd_layer.specs.Limits.{limit_of}
 use Rattle.hd_usda.specs.Cursors.{rest}
 use Rattle.hd_usda.specs.Loops.{all}
-use Rattle.hd_path.specs.Paths.{path_cmp}
-use Rattle.hd_usda.specs.Prims.{Path, Found, with_prim, layer_of}
-use Rattle.hd_usda.specs.WellFormed.{is_prim_spec, ascend, has_parent, is_layer, is_kind, has_kinds}
+use Rattle.hd_path.specs.Paths.{path_cmp, Path}
+use Rattle.hd_usda.specs.Prims.{Found, with_prim, layer_of}
+use Rattle.hd_layer.specs.WellFormed.{is_prim_spec, ascend, has_parent, is_layer, is_kind, has_kinds}
 use Rattle.hd_usda.proofs.OrderedPaths.{Entries, keys, with_entry, equal_path, itself, values_pass, stay_ordered, among, one_more, one_longer, IsKeyed, stay_keyed, keyed_paths}
 
 -- the path above

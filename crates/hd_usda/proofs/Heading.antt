@@ -1,12 +1,12 @@
 -- What the reader holds of the first token.
 use Rattle.std.proofs.Common.{◌≡◌, ℕ, ◌+◌, ◌<◌, List, [], ◌∷◌, true, false, length, take, drop, refl, sym, ap, ◌∙◌, arith}
-use Rattle.hd_usda.specs.declared.lexer.Piece as coded
-use Rattle.hd_usda.specs.Lexing.{cut, line_over, tokens_from, Tokens, Token, Piece, piece_at}
-use Rattle.hd_usda.specs.Scanned.{IsFirst}
+use Rattle.hd_lexer.specs.declared.lexer.Piece as coded
+use Rattle.hd_lexer.specs.Lexing.{cut, line_over, tokens_from, Tokens, Token, Piece, piece_at}
+use Rattle.hd_lexer.specs.Scanned.{IsFirst}
 use Rattle.hd_usda.specs.Cursors.{kind, text, line_of, rest, count, is, same_kind, first_kind, tail}
-use Rattle.hd_usda.specs.declared.lexer.Kind.{Kind}
-use Rattle.hd_usda.specs.declared.lexer.Kind.TheVariants.{End}
-use Rattle.hd_usda.proofs.Skipping.{token_passes}
+use Rattle.hd_lexer.specs.declared.lexer.Kind.{Kind}
+use Rattle.hd_lexer.specs.declared.lexer.Kind.TheVariants.{End}
+use Rattle.hd_lexer.proofs.Skipping.{token_passes}
 
 pub kind_is : (line : ℕ) (bs : List ℕ) (p : coded.Piece) → IsFirst bs p → p.kind ≡ kind (tokens_from line bs)
 unfolding cut

@@ -1,14 +1,15 @@
 -- What holds of tokens, and goes on to hold behind each of them, holds of those that a form leaves.
 use Rattle.std.proofs.Common.{ℕ, zero, suc, ◌&&◌, ◌||◌, if◌then◌else◌, Ok, Err}
-use Rattle.hd_usda.specs.declared.lexer.Kind.{Kind}
-use Rattle.hd_usda.specs.declared.lexer.Kind.TheVariants.{Word, Number, Text, Asset, PathText, OpenRound, CloseRound, OpenSquare, CloseSquare, OpenCurly, CloseCurly, Equals, Comma, Colon, Semicolon}
-use Rattle.hd_usda.specs.declared.fault.LayerWhy.TheVariants.{Syntax, LeftOut, Limit}
-use Rattle.hd_usda.specs.declared.limits.Which.TheVariants.{Nesting}
-use Rattle.hd_usda.specs.Lexing.{Tokens}
+use Rattle.hd_lexer.specs.declared.lexer.Kind.{Kind}
+use Rattle.hd_lexer.specs.declared.lexer.Kind.TheVariants.{Word, Number, Text, Asset, PathText, OpenRound, CloseRound, OpenSquare, CloseSquare, OpenCurly, CloseCurly, Equals, Comma, Colon, Semicolon}
+use Rattle.hd_layer.specs.declared.fault.LayerWhy.TheVariants.{Syntax, LeftOut, Limit}
+use Rattle.hd_layer.specs.declared.limits.Which.TheVariants.{Nesting}
+use Rattle.hd_lexer.specs.Lexing.{Tokens}
 use Rattle.hd_usda.specs.Cursors.{◌>>=◌, Past, Form, is, rest, count, text, line_of, fault_in, fault_at, take, past_one}
 use Rattle.hd_usda.specs.Loops.{past, past_by, all, chain, chain_by}
 use Rattle.hd_usda.specs.Values.{type_name, next_word, more_words, key, next_of_tuple, next_of_list, entry_of_dict, tuple, list, dict, plain_value, value}
-use Rattle.hd_usda.specs.Metadata.{is_any, list_ops, left_out_keys, is_off, behind_key, keyed, entry, metadata}
+use Rattle.hd_usda.specs.Metadata.{list_ops, left_out_keys, is_off, behind_key, keyed, entry, metadata}
+use Rattle.hd_tokens.specs.Names.{is_any}
 use Rattle.hd_usda.proofs.Answering.{Leaves, on_then, on_either, on_ok, on_fault, on_choice, on_all}
 
 -- tokens behind a value

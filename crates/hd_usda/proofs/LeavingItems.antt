@@ -1,21 +1,23 @@
 -- What holds of tokens, and goes on to hold behind each of them, holds of those that a property or a prim leaves.
 use Rattle.std.proofs.Common.{ℕ, zero, suc, Bool, true, false, ◌&&◌, ◌||◌, not, ◌==◌, nat_lt, if◌then◌else◌, List, [], ◌∷◌, ◌++◌, length, Option, Some, None, codes}
-use Rattle.hd_usda.specs.declared.lexer.Kind.TheVariants.{Word, Number, OpenSquare, CloseSquare, OpenCurly, CloseCurly, Equals, Comma, Colon, Semicolon, Point}
-use Rattle.hd_usda.specs.declared.fault.LayerWhy.TheVariants.{Syntax, LeftOut, Limit}
-use Rattle.hd_usda.specs.declared.limits.Which.TheVariants.{Depth, Name}
-use Rattle.hd_usda.specs.declared.properties.Role.{Role}
+use Rattle.hd_lexer.specs.declared.lexer.Kind.TheVariants.{Word, Number, OpenSquare, CloseSquare, OpenCurly, CloseCurly, Equals, Comma, Colon, Semicolon, Point}
+use Rattle.hd_layer.specs.declared.fault.LayerWhy.TheVariants.{Syntax, LeftOut, Limit}
+use Rattle.hd_layer.specs.declared.limits.Which.TheVariants.{Depth, Name}
+use Rattle.hd_tokens.specs.declared.properties.AttributeKind.{AttributeKind}
 use Rattle.hd_usda.specs.declared.attribute.Tail.{Tail}
 use Rattle.hd_usda.specs.declared.attribute.Tail.TheVariants.{Plain, Connect, Samples, Other}
-use Rattle.hd_usda.specs.Limits.{limit_of}
-use Rattle.hd_usda.specs.Lexing.{Tokens}
+use Rattle.hd_layer.specs.Limits.{limit_of}
+use Rattle.hd_lexer.specs.Lexing.{Tokens}
 use Rattle.hd_usda.specs.Cursors.{is, is_word, rest, text, line_of, fault_at, take, past_one}
 use Rattle.hd_usda.specs.Loops.{all}
-use Rattle.hd_usda.specs.Metadata.{is_any, list_ops, metadata}
+use Rattle.hd_usda.specs.Metadata.{list_ops, metadata}
+use Rattle.hd_tokens.specs.Names.{is_any}
 use Rattle.hd_usda.specs.Targets.{targets}
 use Rattle.hd_usda.specs.UsedValues.{used_value}
 use Rattle.hd_usda.specs.Items.{reserved, list_op, past_word, past_modifiers, own_type, Joined, next_word, pname, Seen, new_name, Body, some_value, relation_value, is_misnamed_relation, relation, point_tail, tail_at, Lead, new_attribute, is_misnamed, sample, next_sample, samples, samples_value, plain_value, tail_value, own_role, behind_name, attribute, relation_or_attribute, property}
-use Rattle.hd_usda.specs.Properties.{is_target_name}
-use Rattle.hd_usda.specs.Prims.{Path, Inside, is_prim, prim_type, is_name, next_count, prim_name, head, PrimForm, property_item, item, body, prim, inside_new}
+use Rattle.hd_tokens.specs.Properties.{is_target_name}
+use Rattle.hd_usda.specs.Prims.{Inside, is_prim, prim_type, is_name, next_count, prim_name, head, PrimForm, property_item, item, body, prim, inside_new}
+use Rattle.hd_path.specs.Paths.{Path}
 use Rattle.hd_usda.proofs.Answering.{Leaves, on_then, on_either, on_ok, on_fault, on_choice, Whatever, on_any}
 use Rattle.hd_usda.proofs.Leaving.{Behind, take_leaves, past_one_leaves, past_leaves, all_leaves, chain_leaves, value_leaves, metadata_leaves}
 use Rattle.hd_usda.proofs.LeavingValues.{targets_leaves, used_value_leaves}
@@ -92,12 +94,12 @@ module _ (P : Tokens → Type 0) (goes : (ts : Tokens) → P ts → P (rest ts))
   unfolding samples_value
   samples_value_leaves ts h = on_then P P (take Equals ts) _ (take_leaves P goes Equals ts h) samples_leaves
 
-  plain_value_leaves : (role : Option Role) (name : List ℕ) (b : Body) (ts : Tokens) → P ts → Leaves (Behind P) (plain_value role name b ts)
+  plain_value_leaves : (role : Option AttributeKind) (name : List ℕ) (b : Body) (ts : Tokens) → P ts → Leaves (Behind P) (plain_value role name b ts)
   plain_value_leaves None name b ts h = on_then P (Behind P) (some_value ts) _ (some_value_leaves ts h) (λ u g. on_ok (Behind P) (b, u) g)
   plain_value_leaves (Some role) name b ts h = on_either (Behind P) (is Equals ts) _ _
       (on_then (Behind P) (Behind P) (used_value role (rest ts)) _ (used_value_leaves P goes role (rest ts) (goes ts h)) (λ v g. on_ok (Behind P) (_, v.1) g)) (on_ok (Behind P) (b, ts) h)
 
-  tail_value_leaves : (tail : Tail) (role : Option Role) (name : List ℕ) (b : Body) (ts : Tokens) → P ts → Leaves (Behind P) (tail_value tail role name b ts)
+  tail_value_leaves : (tail : Tail) (role : Option AttributeKind) (name : List ℕ) (b : Body) (ts : Tokens) → P ts → Leaves (Behind P) (tail_value tail role name b ts)
   tail_value_leaves Plain role name b ts h = plain_value_leaves role name b ts h
   tail_value_leaves Connect role name b ts h = on_then P (Behind P) (some_value ts) _ (some_value_leaves ts h) (λ u g. on_ok (Behind P) (b, u) g)
   tail_value_leaves Samples role name b ts h = on_then P (Behind P) (samples_value ts) _ (samples_value_leaves ts h) (λ u g. on_ok (Behind P) (b, u) g)

@@ -1,21 +1,21 @@
 -- What holds of tokens, and goes on to hold behind each of them, holds of those that the value of a used property leaves.
 use Rattle.std.proofs.Common.{ℕ, Bool, true, false, ◌&&◌, nat_le, if◌then◌else◌, List, [], ◌∷◌, ◌++◌, length, Err, codes}
-use Rattle.hd_usda.specs.declared.lexer.Kind.{Kind}
-use Rattle.hd_usda.specs.declared.lexer.Kind.TheVariants.{Number, Text, PathText, OpenRound, CloseRound, OpenSquare, CloseSquare, Comma}
-use Rattle.hd_usda.specs.declared.fault.LayerWhy.TheVariants.{LeftOut}
-use Rattle.hd_usda.specs.declared.limits.Which.TheVariants.{Elements}
+use Rattle.hd_lexer.specs.declared.lexer.Kind.{Kind}
+use Rattle.hd_lexer.specs.declared.lexer.Kind.TheVariants.{Number, Text, PathText, OpenRound, CloseRound, OpenSquare, CloseSquare, Comma}
+use Rattle.hd_layer.specs.declared.fault.LayerWhy.TheVariants.{LeftOut}
+use Rattle.hd_layer.specs.declared.limits.Which.TheVariants.{Elements}
 use Rattle.hd_usda.specs.declared.number_form.Demand.{Demand}
 use Rattle.hd_usda.specs.declared.number_form.Demand.TheVariants.{Any, Turn, Zero, One}
-use Rattle.hd_usda.specs.declared.properties.Role.{Role}
-use Rattle.hd_usda.specs.declared.properties.Role.TheVariants.{Points, Numbers, Colors, ByteColors, OpOrder, Visibility, Purpose, Vector, Angle, Angles, Transform, ByteColor}
-use Rattle.hd_usda.specs.declared.spec.RawValue.{RawValue}
-use Rattle.hd_usda.specs.declared.spec.RawValue.TheVariants as raw
-use Rattle.hd_usda.specs.Limits.{limit_of}
-use Rattle.hd_usda.specs.Lexing.{Tokens}
+use Rattle.hd_tokens.specs.declared.properties.AttributeKind.{AttributeKind}
+use Rattle.hd_tokens.specs.declared.properties.AttributeKind.TheVariants.{Points, Numbers, Colors, ByteColors, OpOrder, Visibility, Purpose, Vector, Angle, Angles, Transform, ByteColor}
+use Rattle.hd_layer.specs.declared.spec.RawValue.{RawValue}
+use Rattle.hd_layer.specs.declared.spec.RawValue.TheVariants as raw
+use Rattle.hd_layer.specs.Limits.{limit_of}
+use Rattle.hd_lexer.specs.Lexing.{Tokens}
 use Rattle.hd_usda.specs.Cursors.{Form, is, is_word, rest, text, line_of, fault_at, take}
-use Rattle.hd_usda.specs.Metadata.{is_any}
-use Rattle.hd_usda.specs.Decimals.{parts_of}
-use Rattle.hd_usda.specs.Properties.{visibilities, purposes, is_op_entry}
+use Rattle.hd_tokens.specs.Names.{is_any}
+use Rattle.hd_lexer.specs.Decimals.{parts_of}
+use Rattle.hd_tokens.specs.Properties.{visibilities, purposes, is_op_entry}
 use Rattle.hd_usda.specs.Numbers.{is_endless, departs, need, known, number, triple, row}
 use Rattle.hd_usda.specs.Elements.{Reads, one_more, next_element, list_of}
 use Rattle.hd_usda.specs.Targets.{path_in, target, one_target, in_list, targets}
@@ -73,7 +73,7 @@ module _ (P : Tokens → Type 0) (goes : (ts : Tokens) → P ts → P (rest ts))
   module _ {A : Type 0} (how : Reads A) (each : (first : Bool) (ts : Tokens) → P ts → Leaves (Behind P) (how.form first ts)) where
     one_more_leaves : (found : List A) (ts : Tokens) → P ts → Leaves (Behind P) (one_more how found ts)
     unfolding one_more
-    one_more_leaves found ts h = on_either (Behind P) (is how.begins ts && nat_le (limit_of Elements) (length found)) _ _ (on_fault (Behind P) (fault_at ts (how.beyond (text ts))))
+    one_more_leaves found ts h = on_either (Behind P) (how.begins ts && nat_le (limit_of Elements) (length found)) _ _ (on_fault (Behind P) (fault_at ts (how.beyond (text ts))))
         (on_then (Behind P) (Behind P) (how.form false ts) _ (each false ts h) (λ x g. on_ok (Behind P) (found ++ x.0 ∷ [], x.1) g))
 
     next_element_leaves : (found : List A) (ts : Tokens) → P ts → Leaves (Behind P) (next_element how found ts)
@@ -114,7 +114,7 @@ module _ (P : Tokens → Type 0) (goes : (ts : Tokens) → P ts → P (rest ts))
   whole_leaves : {A : Type 0} (make : A → RawValue) (form : Form A) → ((ts : Tokens) → P ts → Leaves (Behind P) (form ts)) → (ts : Tokens) → P ts → Leaves (Behind P) (whole make form ts)
   whole_leaves make form each ts h = on_then (Behind P) (Behind P) (form ts) _ (each ts h) (λ x g. on_ok (Behind P) (make x.0, x.1) g)
 
-  value_of_leaves : (role : Role) (ts : Tokens) → P ts → Leaves (Behind P) (value_of role ts)
+  value_of_leaves : (role : AttributeKind) (ts : Tokens) → P ts → Leaves (Behind P) (value_of role ts)
   value_of_leaves Points = whole_leaves raw.Triples (list_of triples) (list_of_leaves triples (λ first. triple_leaves Any))
   value_of_leaves Numbers = whole_leaves raw.Numbers (list_of numbers) (list_of_leaves numbers (λ first. number_leaves Any))
   value_of_leaves Colors = whole_leaves raw.Triples (list_of triples) (list_of_leaves triples (λ first. triple_leaves Any))
@@ -128,6 +128,6 @@ module _ (P : Tokens → Type 0) (goes : (ts : Tokens) → P ts → P (rest ts))
   value_of_leaves Transform = whole_leaves raw.Matrix rows rows_leaves
   value_of_leaves ByteColor = single_leaves raw.Triples (triple Any) (triple_leaves Any)
 
-  pub used_value_leaves : (role : Role) (ts : Tokens) → P ts → Leaves (Behind P) (used_value role ts)
+  pub used_value_leaves : (role : AttributeKind) (ts : Tokens) → P ts → Leaves (Behind P) (used_value role ts)
   unfolding used_value
   used_value_leaves role ts h = on_either (Behind P) (is_word (codes "None") ts) _ _ (on_fault (Behind P) (fault_at ts LeftOut)) (value_of_leaves role ts h)

@@ -1,10 +1,7 @@
-pub mod Skipping
 pub mod Heading
 pub mod Passing
 pub mod Collecting
 pub mod Chaining
-pub mod Magnitudes
-pub mod Splitting
 pub mod SeenNames
 pub mod SeenKeys
 pub mod PrimSteps
@@ -19,7 +16,6 @@ pub mod WordTexts
 pub mod ChildPaths
 pub mod PrimPaths
 pub mod Answering
-pub mod Turns
 pub mod WellFormedNumbers
 pub mod WellFormedLists
 pub mod WellFormedPaths
@@ -34,3 +30,5 @@ pub mod Leaving
 pub mod LeavingValues
 pub mod LeavingItems
 pub mod WordTokens
+pub mod ScriptItems
+pub mod ScriptValues

@@ -7,10 +7,9 @@ use Rattle.std.specs.Ordering.{match_ordering, ordering_reverse}
 use Rattle.std.specs.List.{list_all, list_any}
 use Rattle.std.specs.BTreeMap.{insert_entry}
 use Rattle.std.specs.FinSet.{nat_cmp-IsAntisymmetric, slice_cmp-IsAntisymmetric}
-use Rattle.hd_usda.specs.declared.spec.PrimSpec.{PrimSpec}
-use Rattle.hd_path.specs.Paths.{path_cmp}
-use Rattle.hd_usda.specs.Prims.{Path}
-use Rattle.hd_usda.specs.WellFormed.{ascend}
+use Rattle.hd_layer.specs.declared.spec.PrimSpec.{PrimSpec}
+use Rattle.hd_path.specs.Paths.{path_cmp, Path}
+use Rattle.hd_layer.specs.WellFormed.{ascend}
 
 abbrev pub Entries : Type 0
 Entries = List (Path × PrimSpec)

@@ -1,10 +1,11 @@
 -- A prim from its parts.
 use Rattle.std.proofs.Common.{◌≡◌, ℕ, zero, suc, ◌-◌, ◌<◌, [], ◌∷◌, ◌++◌, Bool, Ok, Err, refl, arith}
-use Rattle.hd_usda.specs.declared.fault.LayerFault.{LayerFault}
-use Rattle.hd_usda.specs.declared.fault.LayerFault.TheVariants as faults
-use Rattle.hd_usda.specs.Lexing.{Tokens}
+use Rattle.hd_layer.specs.declared.fault.LayerFault.{LayerFault}
+use Rattle.hd_layer.specs.declared.fault.LayerFault.TheVariants as faults
+use Rattle.hd_lexer.specs.Lexing.{Tokens}
 use Rattle.hd_usda.specs.Cursors.{fault_in, Fails}
-use Rattle.hd_usda.specs.Prims.{Path, Inside, Head, head, body, ended, prim}
+use Rattle.hd_usda.specs.Prims.{Inside, Head, head, body, ended, prim}
+use Rattle.hd_path.specs.Paths.{Path}
 
 pub prim_ends : (room : ℕ) (path : Path) (counts : Bool) (s : Inside) (ts u : Tokens) (h : Head)
     → room ≡ 0 → head room counts s.found.count s.names ts ≡ Ok (h, u) → prim room path counts s ts ≡ Ok (record s { names = h.named.names }, u)

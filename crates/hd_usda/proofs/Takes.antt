@@ -1,8 +1,8 @@
 -- What takes a token may be repeated with as many rounds as there are tokens, and one more.
 use Rattle.std.proofs.Common.{◌≡◌, ℕ, zero, suc, ◌<◌, ◌≤◌, List, [], ◌∷◌, length, Result, Ok, Err, IfOk, Bool, true, false, if◌then◌else◌, refl, arith}
-use Rattle.hd_usda.specs.declared.lexer.Kind.{Kind}
-use Rattle.hd_usda.specs.declared.lexer.Kind.TheVariants.{End}
-use Rattle.hd_usda.specs.Lexing.{Token, Tokens}
+use Rattle.hd_lexer.specs.declared.lexer.Kind.{Kind}
+use Rattle.hd_lexer.specs.declared.lexer.Kind.TheVariants.{End}
+use Rattle.hd_lexer.specs.Lexing.{Token, Tokens}
 use Rattle.hd_usda.specs.Cursors.{◌>>=◌, Fault, Past, Form, is, same_kind, rest, tail, count, take, past_one}
 use Rattle.hd_usda.specs.Loops.{past, past_by, all, all_by, chain, chain_by}
 use Rattle.hd_usda.proofs.Heading.{one_fewer}

@@ -1,13 +1,14 @@
 -- The properties of a prim take tokens.
 use Rattle.std.proofs.Common.{ℕ, suc, ◌<◌, List, Option, Some, None, Ok, IfOk, Bool, true, false, ◌&&◌, if◌then◌else◌, ◌||◌, codes, refl, arith}
-use Rattle.hd_usda.specs.declared.lexer.Kind.TheVariants.{Word, Number, OpenSquare, CloseSquare, OpenCurly, CloseCurly, Equals, Comma, Colon, Point}
-use Rattle.hd_usda.specs.declared.properties.Role.{Role}
+use Rattle.hd_lexer.specs.declared.lexer.Kind.TheVariants.{Word, Number, OpenSquare, CloseSquare, OpenCurly, CloseCurly, Equals, Comma, Colon, Point}
+use Rattle.hd_tokens.specs.declared.properties.AttributeKind.{AttributeKind}
 use Rattle.hd_usda.specs.declared.attribute.Tail.{Tail}
 use Rattle.hd_usda.specs.declared.attribute.Tail.TheVariants.{Plain, Connect, Samples, Other}
-use Rattle.hd_usda.specs.Lexing.{Tokens}
+use Rattle.hd_lexer.specs.Lexing.{Tokens}
 use Rattle.hd_usda.specs.Cursors.{◌>>=◌, is, is_word, rest, count, text, line_of, take}
-use Rattle.hd_usda.specs.Metadata.{is_any, list_ops, metadata}
-use Rattle.hd_usda.specs.Properties.{is_target_name}
+use Rattle.hd_usda.specs.Metadata.{list_ops, metadata}
+use Rattle.hd_tokens.specs.Names.{is_any}
+use Rattle.hd_tokens.specs.Properties.{is_target_name}
 use Rattle.hd_usda.specs.Targets.{targets}
 use Rattle.hd_usda.specs.UsedValues.{used_value}
 use Rattle.hd_usda.specs.Items.{reserved, list_op, past_word, past_modifiers, own_type, Joined, next_word, pname, new_name, Body, some_value, relation_value, is_misnamed_relation, relation, point_tail, tail_at, Lead, is_misnamed, new_attribute, sample, next_sample, samples, samples_value, plain_value, tail_value, own_role, behind_name, attribute, relation_or_attribute, property}
@@ -123,13 +124,13 @@ unfolding samples_value
 samples_value_keeps n ts low =
     chained (Below n) (Below n) _ (take Equals ts) (take_keeps Equals refl n ts low) (λ u low1. samples_keep n u low1)
 
-plain_value_keeps : (role : Option Role) (name : List ℕ) (body : Body) → Keeps (plain_value role name body)
+plain_value_keeps : (role : Option AttributeKind) (name : List ℕ) (body : Body) → Keeps (plain_value role name body)
 plain_value_keeps None name body n ts low = beside_some_value body n ts low
 plain_value_keeps (Some role) name body n ts low =
     chosen (Behind n) _ _ (is Equals ts) (λ _.
     chained (Behind n) (Behind n) _ (used_value role (rest ts)) (keeps (used_value role) (used_value_takes role) n (rest ts) (rest_keeps n ts low)) (λ v low1. low1)) (λ _. low)
 
-tail_value_keeps : (tail : Tail) (role : Option Role) (name : List ℕ) (body : Body) → Keeps (tail_value tail role name body)
+tail_value_keeps : (tail : Tail) (role : Option AttributeKind) (name : List ℕ) (body : Body) → Keeps (tail_value tail role name body)
 tail_value_keeps Plain role name body n ts low = plain_value_keeps role name body n ts low
 tail_value_keeps Connect role name body n ts low = beside_some_value body n ts low
 tail_value_keeps Samples role name body n ts low = chained (Below n) (Behind n) (λ u. Ok (body, u)) (samples_value ts) (samples_value_keeps n ts low) (λ u low1. low1)

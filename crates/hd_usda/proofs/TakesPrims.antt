@@ -1,14 +1,15 @@
 -- Prims take tokens, however many may stand below each other.
 use Rattle.std.proofs.Common.{◌≡◌, ℕ, zero, suc, ◌<◌, [], ◌∷◌, ◌++◌, length, Bool, true, false, ◌&&◌, ◌||◌, not, ◌==◌, nat_lt, bytes_eq, codes, refl}
 use Rattle.hd_path.specs.Names.{is_identifier}
-use Rattle.hd_usda.specs.declared.lexer.Kind.TheVariants.{Word, Text, OpenCurly, CloseCurly, Semicolon}
-use Rattle.hd_usda.specs.declared.limits.Which.TheVariants.{Depth, Name}
-use Rattle.hd_usda.specs.Limits.{limit_of}
-use Rattle.hd_usda.specs.Lexing.{Tokens}
+use Rattle.hd_lexer.specs.declared.lexer.Kind.TheVariants.{Word, Text, OpenCurly, CloseCurly, Semicolon}
+use Rattle.hd_layer.specs.declared.limits.Which.TheVariants.{Depth, Name}
+use Rattle.hd_layer.specs.Limits.{limit_of}
+use Rattle.hd_lexer.specs.Lexing.{Tokens}
 use Rattle.hd_usda.specs.Cursors.{is, is_word, rest, count, text, line_of, take}
 use Rattle.hd_usda.specs.Metadata.{metadata}
 use Rattle.hd_usda.specs.Items.{Seen, new_name, property}
-use Rattle.hd_usda.specs.Prims.{Path, Found, Inside, inside_new, is_prim, prim_type, is_name, next_count, prim_name, head, PrimForm, property_item, item, body, prim, root_item}
+use Rattle.hd_usda.specs.Prims.{Found, Inside, inside_new, is_prim, prim_type, is_name, next_count, prim_name, head, PrimForm, property_item, item, body, prim, root_item}
+use Rattle.hd_path.specs.Paths.{Path}
 use Rattle.hd_usda.proofs.Heading.{one_fewer}
 use Rattle.hd_usda.proofs.Takes.{Below, Behind, Takes, Keeps, chained, chosen, whatever, keeps, rest_keeps, take_keeps, past_one_keeps, all_keeps}
 use Rattle.hd_usda.proofs.TakesValues.{metadata_keeps}

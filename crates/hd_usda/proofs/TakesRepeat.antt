@@ -1,7 +1,7 @@
 -- A form that takes a token repeats as its grammar says, whatever number of rounds beyond the tokens bounds it.
 use Rattle.std.proofs.Common.{◌≡◌, ℕ, zero, suc, ◌<◌, ◌≤◌, Result, Ok, Err, IfOk, if◌then◌else◌, refl, ap, arith}
-use Rattle.hd_usda.specs.declared.lexer.Kind.{Kind}
-use Rattle.hd_usda.specs.Lexing.{Tokens}
+use Rattle.hd_lexer.specs.declared.lexer.Kind.{Kind}
+use Rattle.hd_lexer.specs.Lexing.{Tokens}
 use Rattle.hd_usda.specs.Cursors.{◌>>=◌, Fault, Past, Form, is, rest, count}
 use Rattle.hd_usda.specs.Loops.{past, past_by, all, all_by, chain, chain_by}
 use Rattle.hd_usda.specs.Laws.{PastRepeats, AllRepeats, ChainRepeats}

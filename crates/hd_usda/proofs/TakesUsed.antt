@@ -1,17 +1,17 @@
 -- The values of used properties take tokens.
 use Rattle.std.proofs.Common.{◌≡◌, ℕ, ℤ, List, [], ◌∷◌, length, nat_le, Ok, Bool, true, false, ◌&&◌, codes, refl}
 use Rattle.hd_num.specs.declared.vector.Vec3.{Vec3}
-use Rattle.hd_usda.specs.declared.lexer.Kind.{Kind}
-use Rattle.hd_usda.specs.declared.lexer.Kind.TheVariants.{Number, Text, PathText, OpenRound, CloseRound, OpenSquare, CloseSquare, Comma, End}
+use Rattle.hd_lexer.specs.declared.lexer.Kind.{Kind}
+use Rattle.hd_lexer.specs.declared.lexer.Kind.TheVariants.{Number, Text, PathText, OpenRound, CloseRound, OpenSquare, CloseSquare, Comma, End}
 use Rattle.hd_usda.specs.declared.number_form.Demand.{Demand}
 use Rattle.hd_usda.specs.declared.number_form.Demand.TheVariants.{Any, Turn, Zero, One}
-use Rattle.hd_usda.specs.declared.properties.Role.{Role}
-use Rattle.hd_usda.specs.declared.properties.Role.TheVariants as role
-use Rattle.hd_usda.specs.declared.limits.Which.TheVariants.{Elements}
-use Rattle.hd_usda.specs.Limits.{limit_of}
+use Rattle.hd_tokens.specs.declared.properties.AttributeKind.{AttributeKind}
+use Rattle.hd_tokens.specs.declared.properties.AttributeKind.TheVariants as role
+use Rattle.hd_layer.specs.declared.limits.Which.TheVariants.{Elements}
+use Rattle.hd_layer.specs.Limits.{limit_of}
 use Rattle.hd_usda.specs.Cursors.{◌>>=◌, Form, is, is_word, same_kind, count, text, line_of, take}
-use Rattle.hd_usda.specs.Metadata.{is_any}
-use Rattle.hd_usda.specs.Properties.{is_op_entry}
+use Rattle.hd_tokens.specs.Names.{is_any}
+use Rattle.hd_tokens.specs.Properties.{is_op_entry}
 use Rattle.hd_usda.specs.Numbers.{need, number, triple, row}
 use Rattle.hd_usda.specs.Elements.{Reads, one_more, next_element, list_of}
 use Rattle.hd_usda.specs.Targets.{path_in, target, one_target, in_list, targets}
@@ -99,7 +99,7 @@ unfolding next_element one_more
 next_element_takes {A} how takes found ts =
     chained (Below (count ts)) (Behind (count ts)) _ (need how.attribute Comma ts) (need_takes how.attribute Comma refl ts) (λ u low.
     chosen (Behind (count ts)) _ _ (is CloseSquare u) (λ _. low) (λ _.
-    chosen (Behind (count ts)) _ _ (is how.begins u && nat_le (limit_of Elements) (length found)) (λ _. tt) (λ _.
+    chosen (Behind (count ts)) _ _ (how.begins u && nat_le (limit_of Elements) (length found)) (λ _. tt) (λ _.
     chained (Behind (count ts)) (Behind (count ts)) _ (how.form false u) (keeps (how.form false) (takes false) (count ts) u low) (λ x low1. low1))))
 
 list_of_takes : {A : Type 0} (how : Reads A) → ((first : Bool) → Takes (how.form first)) → Takes (list_of how)
@@ -126,7 +126,7 @@ next_target_takes = next_element_takes in_list (λ first. target_takes)
 made : {A B : Type 0} (make : A → B) (form : Form A) → Takes form → Takes (λ ts. form ts >>= λ x. Ok (make x.0, x.1))
 made make form takes ts = chained (Behind (count ts)) (Behind (count ts)) _ (form ts) (takes ts) (λ x low. low)
 
-value_of_takes : (role : Role) → Takes (value_of role)
+value_of_takes : (role : AttributeKind) → Takes (value_of role)
 value_of_takes role.Points = made _ (list_of triples) (list_of_takes triples (λ first. triple_takes Any))
 value_of_takes role.Numbers = made _ (list_of numbers) (list_of_takes numbers (λ first. number_takes Any))
 value_of_takes role.Colors = made _ (list_of triples) (list_of_takes triples (λ first. triple_takes Any))
@@ -140,7 +140,7 @@ value_of_takes role.Angles = made _ (triple Turn) (triple_takes Turn)
 value_of_takes role.Transform = made _ rows rows_take
 value_of_takes role.ByteColor = made _ (triple Any) (triple_takes Any)
 
-pub used_value_takes : (role : Role) → Takes (used_value role)
+pub used_value_takes : (role : AttributeKind) → Takes (used_value role)
 unfolding used_value
 used_value_takes role ts = chosen (Behind (count ts)) _ _ (is_word (codes "None") ts) (λ _. tt) (λ _. value_of_takes role ts)
 

@@ -1,11 +1,12 @@
 -- Values and metadata of which nothing is kept take tokens.
 use Rattle.std.proofs.Common.{◌≡◌, ℕ, zero, suc, ◌<◌, List, Ok, Bool, true, false, ◌||◌, ◌&&◌, codes, bytes_eq, refl}
-use Rattle.hd_usda.specs.declared.lexer.Kind.TheVariants.{Word, Number, Text, Asset, PathText, OpenRound, CloseRound, OpenSquare, CloseSquare, OpenCurly, CloseCurly, Equals, Comma, Colon, Semicolon}
-use Rattle.hd_usda.specs.Lexing.{Tokens}
+use Rattle.hd_lexer.specs.declared.lexer.Kind.TheVariants.{Word, Number, Text, Asset, PathText, OpenRound, CloseRound, OpenSquare, CloseSquare, OpenCurly, CloseCurly, Equals, Comma, Colon, Semicolon}
+use Rattle.hd_lexer.specs.Lexing.{Tokens}
 use Rattle.hd_usda.specs.Cursors.{Past, is, rest, count, text, line_of, take}
 use Rattle.hd_usda.specs.Loops.{chain}
 use Rattle.hd_usda.specs.Values.{type_name, next_word, more_words, key, next_of_tuple, next_of_list, entry_of_dict, tuple, list, dict, plain_value, value}
-use Rattle.hd_usda.specs.Metadata.{is_any, list_ops, left_out_keys, is_off, behind_key, keyed, entry, metadata}
+use Rattle.hd_usda.specs.Metadata.{list_ops, left_out_keys, is_off, behind_key, keyed, entry, metadata}
+use Rattle.hd_tokens.specs.Names.{is_any}
 use Rattle.hd_usda.proofs.Heading.{one_fewer}
 use Rattle.hd_usda.proofs.Takes.{Below, Behind, PastTakes, Takes, PastKeeps, chained, chosen, past_keeps, keeps, rest_keeps, take_takes, take_keeps, past_one_keeps, past_form_keeps, chain_keeps}
 

@@ -9,22 +9,22 @@ use Rattle.std.specs.List.{list_all, list_any}
 use Rattle.std.specs.Ordering.{nat_cmp, eq_by_cmp, is_eq}
 use Rattle.std.specs.Cmp.Lexicographic.{slice_cmp}
 use Rattle.std.specs.FinSet.{contains, insert, contains-insert}
-use Rattle.hd_usda.specs.declared.lexer.Kind.TheVariants.{Equals}
-use Rattle.hd_usda.specs.declared.fault.LayerWhy.TheVariants.{Syntax, Twice, LeftOut}
-use Rattle.hd_usda.specs.declared.properties.Role.{Role}
+use Rattle.hd_lexer.specs.declared.lexer.Kind.TheVariants.{Equals}
+use Rattle.hd_layer.specs.declared.fault.LayerWhy.TheVariants.{Syntax, Twice, LeftOut}
+use Rattle.hd_tokens.specs.declared.properties.AttributeKind.{AttributeKind}
 use Rattle.hd_usda.specs.declared.attribute.Tail.{Tail}
 use Rattle.hd_usda.specs.declared.attribute.Tail.TheVariants.{Plain, Connect, Samples, Other}
-use Rattle.hd_usda.specs.declared.spec.Property.{Property}
-use Rattle.hd_usda.specs.declared.spec.RawValue.{RawValue}
-use Rattle.hd_usda.specs.declared.spec.RawValue.TheVariants.{Paths}
-use Rattle.hd_usda.specs.Lexing.{Tokens}
+use Rattle.hd_layer.specs.declared.spec.Property.{Property}
+use Rattle.hd_layer.specs.declared.spec.RawValue.{RawValue}
+use Rattle.hd_layer.specs.declared.spec.RawValue.TheVariants.{Paths}
+use Rattle.hd_lexer.specs.Lexing.{Tokens}
 use Rattle.hd_usda.specs.Cursors.{is, is_word, rest, fault_in, fault_at}
 use Rattle.hd_usda.specs.Metadata.{metadata}
-use Rattle.hd_usda.specs.Properties.{role_of, is_used, is_target_name}
+use Rattle.hd_tokens.specs.Properties.{attribute_kind_of, is_used, is_target_name}
 use Rattle.hd_usda.specs.Targets.{targets}
 use Rattle.hd_usda.specs.UsedValues.{used_value}
 use Rattle.hd_usda.specs.Items.{Seen, Joined, Lead, Body, with_value, list_op, past_modifiers, own_type, pname, new_name, some_value, samples_value, relation_value, is_misnamed, is_misnamed_relation, relation, tail_at, with_tail, new_attribute, plain_value, tail_value, own_role, behind_name, attribute, relation_or_attribute, property}
-use Rattle.hd_usda.specs.WellFormed.{is_property, are_distinct, has_form, is_list, is_below_root}
+use Rattle.hd_layer.specs.WellFormed.{is_property, are_distinct, has_form, is_list, is_below_root}
 use Rattle.hd_usda.proofs.Answering.{ok_same, past_fault, Leaves, Whatever, on_then, on_either, on_test, on_ok, on_fault, on_any}
 use Rattle.hd_usda.proofs.WellFormedPaths.{targets_are}
 use Rattle.hd_usda.proofs.WellFormedValues.{used_value_is}
@@ -107,7 +107,7 @@ abbrev Good : Body × Tokens → Type 0
 Good q = IsBody q.0
 
 targets_kept : (used : Bool) (name : List ℕ) (b : Body) (after : Seen) (ts : Tokens) → IsNew name b.properties after
-    → (used ≡ true → is_used (role_of name) ≡ false) → (used ≡ true → is_target_name name ≡ true) → IsBody b
+    → (used ≡ true → is_used (attribute_kind_of name) ≡ false) → (used ≡ true → is_target_name name ≡ true) → IsBody b
     → Leaves Good (relation_value used name (record b { properties = after }) ts)
 unfolding relation_value
 targets_kept used name b after ts new unused target h =
@@ -117,10 +117,10 @@ targets_kept used name b after ts new unused target h =
     (λ none. on_then Whatever Good (some_value ts) _ (on_any (some_value ts)) (λ u _. on_ok Good (_, u) (nothing_kept name b after new h)))
   where
     kept : used ≡ true → (ps : List (List (List ℕ))) → is_list is_below_root ps ≡ true → IsBody (with_value (record b { properties = after }) (record { name = name; value = Paths ps }))
-    kept some ps form = one_kept name (Paths ps) b after new (relation_is (role_of name) name ps (unused some) (target some) form) h
+    kept some ps form = one_kept name (Paths ps) b after new (relation_is (attribute_kind_of name) name ps (unused some) (target some) form) h
 
-right_name : (used listed : Bool) (name : List ℕ) → (used && is_misnamed_relation listed name) ≡ false → (used && is_target_name name) ≡ true → is_used (role_of name) ≡ false
-right_name true listed name h t = (or_parts (is_used (role_of name)) (listed && is_target_name name) h).0
+right_name : (used listed : Bool) (name : List ℕ) → (used && is_misnamed_relation listed name) ≡ false → (used && is_target_name name) ≡ true → is_used (attribute_kind_of name) ≡ false
+right_name true listed name h t = (or_parts (is_used (attribute_kind_of name)) (listed && is_target_name name) h).0
 right_name false listed name h t = absurd (cc)
 
 relation_keeps : (used listed : Bool) (b : Body) (ts : Tokens) → IsBody b → Leaves Good (relation used listed b ts)
@@ -134,16 +134,16 @@ relation_keeps used listed b ts h =
     on_then Whatever Good (metadata r.1) _ (on_any (metadata r.1)) (λ end _.
     on_ok Good (r.0, end) good))))
 
-owned : (used : Bool) (name : List ℕ) (role : Role) → own_role used name ≡ Some role → role_of name ≡ Some role
+owned : (used : Bool) (name : List ℕ) (role : AttributeKind) → own_role used name ≡ Some role → attribute_kind_of name ≡ Some role
 owned true name role e = e
 owned false name role e = absurd (cc)
 
-plain_kept : (used : Bool) (role : Option Role) (name : List ℕ) (b : Body) (after : Seen) (ts : Tokens) → IsNew name b.properties after
+plain_kept : (used : Bool) (role : Option AttributeKind) (name : List ℕ) (b : Body) (after : Seen) (ts : Tokens) → IsNew name b.properties after
     → own_role used name ≡ role → IsBody b → Leaves Good (plain_value role name (record b { properties = after }) ts)
 plain_kept used None name b after ts new is_role h = on_then Whatever Good (some_value ts) _ (on_any (some_value ts)) (λ u _. on_ok Good (_, u) (nothing_kept name b after new h))
 plain_kept used (Some role) name b after ts new is_role h = on_either Good (is Equals ts) _ _
     (on_then (λ v. has_form role v.0 ≡ true) Good (used_value role (rest ts)) _ (λ v e. used_value_is role (rest ts) v.0 v.1 e)
-    (λ v form. on_ok Good (_, v.1) (one_kept name v.0 b after new (attribute_is (role_of name) role name v.0 (owned used name role is_role) form) h)))
+    (λ v form. on_ok Good (_, v.1) (one_kept name v.0 b after new (attribute_is (attribute_kind_of name) role name v.0 (owned used name role is_role) form) h)))
     (on_ok Good (_, ts) (nothing_kept name b after new h))
 
 tail_kept : (tail : Tail) (used left_out : Bool) (p : Joined) (b : Body) (after : Seen) (us ts : Tokens) → IsBody b

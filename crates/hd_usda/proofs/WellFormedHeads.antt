@@ -2,16 +2,16 @@
 use Rattle.std.proofs.Common.{◌≡◌, ℕ, ◌+◌, ◌<◌, Bool, true, false, ◌&&◌, not, ◌==◌, nat_lt, nat_le, List, [], length, bytes_eq, Ok, refl, sym}
 use Rattle.std.proofs.lemmas.Bool.{and_from, or_right, ltb-false, leb-false, le-leb}
 use Rattle.hd_path.specs.Names.{is_identifier}
-use Rattle.hd_usda.specs.declared.lexer.Kind.TheVariants.{Word, Text, OpenCurly}
-use Rattle.hd_usda.specs.declared.fault.LayerWhy.TheVariants.{Syntax, Limit}
-use Rattle.hd_usda.specs.declared.limits.Which.TheVariants.{Prims, Depth, Name}
-use Rattle.hd_usda.specs.Limits.{limit_of}
-use Rattle.hd_usda.specs.Lexing.{Tokens}
+use Rattle.hd_lexer.specs.declared.lexer.Kind.TheVariants.{Word, Text, OpenCurly}
+use Rattle.hd_layer.specs.declared.fault.LayerWhy.TheVariants.{Syntax, Limit}
+use Rattle.hd_layer.specs.declared.limits.Which.TheVariants.{Prims, Depth, Name}
+use Rattle.hd_layer.specs.Limits.{limit_of}
+use Rattle.hd_lexer.specs.Lexing.{Tokens}
 use Rattle.hd_usda.specs.Cursors.{is, rest, text, line_of, fault_in, fault_at, take as take_token}
 use Rattle.hd_usda.specs.Metadata.{metadata}
 use Rattle.hd_usda.specs.Items.{Seen, new_name}
 use Rattle.hd_usda.specs.Prims.{prim_type, is_name, next_count, Named, prim_name, Head, head}
-use Rattle.hd_usda.specs.WellFormed.{is_prim_name, is_kind}
+use Rattle.hd_layer.specs.WellFormed.{is_prim_name, is_kind}
 use Rattle.hd_usda.proofs.Answering.{ok_same, past_fault, Leaves, Whatever, on_then, on_either, on_test, on_ok, on_fault, on_any}
 use Rattle.hd_usda.proofs.WordTokens.{Worded, word_is_identifier}
 

@@ -3,14 +3,14 @@ use Rattle.std.proofs.Common.{◌≡◌, ℕ, ◌<◌, ◌≤◌, Bool, true, fa
 use Rattle.std.proofs.lemmas.Bool.{and_from, and_parts, leb-false, le-leb}
 use Rattle.std.proofs.lemmas.List.Folds.{list_all-append}
 use Rattle.std.specs.List.{list_all}
-use Rattle.hd_usda.specs.declared.lexer.Kind.TheVariants.{OpenSquare, CloseSquare, Comma}
-use Rattle.hd_usda.specs.declared.limits.Which.TheVariants.{Elements}
-use Rattle.hd_usda.specs.Limits.{limit_of}
-use Rattle.hd_usda.specs.Lexing.{Tokens}
+use Rattle.hd_lexer.specs.declared.lexer.Kind.TheVariants.{OpenSquare, CloseSquare, Comma}
+use Rattle.hd_layer.specs.declared.limits.Which.TheVariants.{Elements}
+use Rattle.hd_layer.specs.Limits.{limit_of}
+use Rattle.hd_lexer.specs.Lexing.{Tokens}
 use Rattle.hd_usda.specs.Cursors.{is, rest, text, fault_at}
 use Rattle.hd_usda.specs.Numbers.{need}
 use Rattle.hd_usda.specs.Elements.{Reads, one_more, next_element, list_of}
-use Rattle.hd_usda.specs.WellFormed.{is_list}
+use Rattle.hd_layer.specs.WellFormed.{is_list}
 use Rattle.hd_usda.proofs.Answering.{Leaves, Whatever, on_then, on_either, on_test, on_ok, on_fault, on_any, on_all}
 
 -- a first element and others, which pass their tests
@@ -37,7 +37,7 @@ below_limit false limit n h e = absurd (cc)
 pub record Checks {A : Type 0} (how : Reads A) (first other : A → Bool) : Type 0 where
   pub starts : (ts : Tokens) (x : A) (u : Tokens) → how.form true ts ≡ Ok (x, u) → first x ≡ true
   pub goes_on : (ts : Tokens) (x : A) (u : Tokens) → how.form false ts ≡ Ok (x, u) → other x ≡ true
-  pub begins : (ts : Tokens) (x : A) (u : Tokens) → how.form false ts ≡ Ok (x, u) → is how.begins ts ≡ true
+  pub begins : (ts : Tokens) (x : A) (u : Tokens) → how.form false ts ≡ Ok (x, u) → how.begins ts ≡ true
 
 -- the same with the tokens behind them
 abbrev SoFar : {A : Type 0} → (A → Bool) → (A → Bool) → List A × Tokens → Type 0
@@ -46,9 +46,9 @@ SoFar first other q = ElementsSoFar first other q.0
 one_more_keeps : {A : Type 0} (how : Reads A) (first other : A → Bool) → Checks how first other → (found : List A) (ts : Tokens) → ElementsSoFar first other found → Leaves (SoFar first other) (one_more how found ts)
 unfolding one_more
 one_more_keeps {A} how first other checks found ts h =
-    on_test (SoFar first other) (is how.begins ts && nat_le (limit_of Elements) (length found)) _ _ (λ beyond. on_fault (SoFar first other) (fault_at ts (how.beyond (text ts)))) (λ there.
-    on_then (λ x. (is how.begins ts ≡ true) × (other x.0 ≡ true)) (SoFar first other) (how.form false ts) _ (λ x e. (checks.begins ts x.0 x.1 e, checks.goes_on ts x.0 x.1 e))
-    (λ x good. on_ok (SoFar first other) (found ++ x.0 ∷ [], x.1) (longer x.0 (below_limit (is how.begins ts) (limit_of Elements) (length found) there good.0) good.1)))
+    on_test (SoFar first other) (how.begins ts && nat_le (limit_of Elements) (length found)) _ _ (λ beyond. on_fault (SoFar first other) (fault_at ts (how.beyond (text ts)))) (λ there.
+    on_then (λ x. (how.begins ts ≡ true) × (other x.0 ≡ true)) (SoFar first other) (how.form false ts) _ (λ x e. (checks.begins ts x.0 x.1 e, checks.goes_on ts x.0 x.1 e))
+    (λ x good. on_ok (SoFar first other) (found ++ x.0 ∷ [], x.1) (longer x.0 (below_limit (how.begins ts) (limit_of Elements) (length found) there good.0) good.1)))
   where
     longer : (x : A) → length found < limit_of Elements → other x ≡ true → ElementsSoFar first other (found ++ x ∷ [])
     longer x room good = let size = length-append found (x ∷ []) in record { passes = follow_more first other found x h.passes good; within = omega (arith, room, size) }

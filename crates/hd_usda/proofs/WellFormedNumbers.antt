@@ -4,20 +4,20 @@ use Rattle.std.specs.List.{list_all}
 use Rattle.std.proofs.lemmas.Bool.{and_from, not-false}
 use Rattle.hd_num.specs.declared.vector.Vec3.{Vec3}
 use Rattle.hd_num.specs.Matrices.{Rows}
-use Rattle.hd_usda.specs.declared.lexer.Kind.TheVariants.{Number, OpenRound, CloseRound, Comma}
-use Rattle.hd_usda.specs.declared.fault.LayerWhy.TheVariants.{LeftOut, Fraction}
-use Rattle.hd_usda.specs.declared.limits.Which.TheVariants.{Literal}
+use Rattle.hd_lexer.specs.declared.lexer.Kind.TheVariants.{Number, OpenRound, CloseRound, Comma}
+use Rattle.hd_layer.specs.declared.fault.LayerWhy.TheVariants.{LeftOut, Fraction}
+use Rattle.hd_layer.specs.declared.limits.Which.TheVariants.{Literal}
 use Rattle.hd_usda.specs.declared.number_form.Demand.{Demand}
 use Rattle.hd_usda.specs.declared.number_form.Demand.TheVariants.{Any, Turn, Zero, One}
-use Rattle.hd_usda.specs.Lexing.{Tokens}
-use Rattle.hd_usda.specs.Limits.{limit_of}
+use Rattle.hd_lexer.specs.Lexing.{Tokens}
+use Rattle.hd_layer.specs.Limits.{limit_of}
 use Rattle.hd_usda.specs.Cursors.{is, rest, text, line_of, fault_in, fault_at}
-use Rattle.hd_usda.specs.Decimals.{Decimal, parts_of, amount, is_fractional, within_limit}
+use Rattle.hd_lexer.specs.Decimals.{Decimal, parts_of, amount, is_fractional, within_limit}
 use Rattle.hd_usda.specs.Numbers.{is_endless, departs, need, meets, limited, known, number, triple, row}
 use Rattle.hd_usda.specs.UsedValues.{rows}
-use Rattle.hd_usda.specs.WellFormed.{is_small, is_quarters, each_of, are_small_rows}
+use Rattle.hd_layer.specs.WellFormed.{is_small, is_quarters, each_of, are_small_rows}
 use Rattle.hd_usda.proofs.Answering.{answered, ok_same, no_answer, past_fault, past_test, Leaves, Whatever, on_then, on_any, on_ok}
-use Rattle.hd_usda.proofs.Turns.{turn_divides}
+use Rattle.hd_lexer.proofs.Turns.{turn_divides}
 
 -- a token that was needed came
 pub needed : (k : _) (ts u : Tokens) → need true k ts ≡ Ok u → is k ts ≡ true

@@ -1,21 +1,22 @@
 -- The prims that a reader may answer are well formed, and make a layer.
-use Rattle.std.proofs.Common.{◌≡◌, ℕ, zero, suc, ◌+◌, ◌⊎◌, Bool, true, false, ◌&&◌, not, if◌then◌else◌, List, [], ◌∷◌, ◌++◌, length, Result, Ok, Err, IfOk, inl, inr, refl, sym, ap, subst, ◌∙◌, codes, arith, length-append}
+use Rattle.std.proofs.Common.{◌≡◌, ℕ, zero, suc, ◌⊎◌, Bool, true, false, ◌&&◌, not, if◌then◌else◌, List, [], ◌∷◌, ◌++◌, length, Result, Ok, Err, IfOk, inl, inr, refl, sym, ap, subst, ◌∙◌, codes, arith, length-append}
 use Rattle.std.proofs.lemmas.Bool.{and_from, lt-ltb}
 use Rattle.std.specs.List.{list_all}
-use Rattle.hd_usda.specs.declared.lexer.Kind.TheVariants.{CloseCurly, Semicolon, End}
-use Rattle.hd_usda.specs.declared.fault.LayerFault.{LayerFault}
-use Rattle.hd_usda.specs.declared.fault.LayerWhy.TheVariants.{Syntax, LeftOut}
-use Rattle.hd_usda.specs.declared.spec.PrimSpec.{PrimSpec}
-use Rattle.hd_usda.specs.declared.spec.LayerSpec.{LayerSpec}
-use Rattle.hd_usda.specs.declared.limits.Which.TheVariants.{Depth}
-use Rattle.hd_usda.specs.Limits.{limit_of}
-use Rattle.hd_usda.specs.Lexing.{Tokens, tokens_from}
+use Rattle.hd_lexer.specs.declared.lexer.Kind.TheVariants.{CloseCurly, Semicolon, End}
+use Rattle.hd_layer.specs.declared.fault.LayerFault.{LayerFault}
+use Rattle.hd_layer.specs.declared.fault.LayerWhy.TheVariants.{Syntax, LeftOut}
+use Rattle.hd_layer.specs.declared.spec.PrimSpec.{PrimSpec}
+use Rattle.hd_layer.specs.declared.spec.LayerSpec.{LayerSpec}
+use Rattle.hd_layer.specs.declared.limits.Which.TheVariants.{Depth}
+use Rattle.hd_layer.specs.Limits.{limit_of}
+use Rattle.hd_lexer.specs.Lexing.{Tokens, tokens_from}
 use Rattle.hd_usda.specs.Cursors.{Fault, is_word, rest, fault_at, past_one, Gives}
 use Rattle.hd_usda.specs.Loops.{all}
 use Rattle.hd_usda.specs.Metadata.{metadata}
 use Rattle.hd_usda.specs.Items.{Seen, Body, property}
-use Rattle.hd_usda.specs.Prims.{Path, Found, Inside, inside_new, is_prim, Head, head, PrimForm, property_item, item, body, ended, prim, root_item, layer_of, layer}
-use Rattle.hd_usda.specs.WellFormed.{is_below_root, is_property, are_distinct, is_prim_spec, is_layer, has_kinds}
+use Rattle.hd_usda.specs.Prims.{Found, Inside, inside_new, is_prim, Head, head, PrimForm, property_item, item, body, ended, prim, root_item, layer_of, layer}
+use Rattle.hd_path.specs.Paths.{Path}
+use Rattle.hd_layer.specs.WellFormed.{is_below_root, is_property, are_distinct, is_prim_spec, is_layer, has_kinds}
 use Rattle.hd_usda.proofs.Answering.{Leaves, Whatever, on_then, on_either, on_ok, on_fault, on_any, on_all}
 use Rattle.hd_usda.proofs.LeavingItems.{head_leaves, item_leaves, prim_leaves}
 use Rattle.hd_usda.proofs.Leaving.{Behind, metadata_leaves}

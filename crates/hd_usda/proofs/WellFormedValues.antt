@@ -3,23 +3,23 @@ use Rattle.std.proofs.Common.{◌≡◌, ℕ, Bool, true, false, ◌&&◌, nat_l
 use Rattle.std.proofs.lemmas.Bool.{and_from, and_parts}
 use Rattle.std.specs.List.{list_all}
 use Rattle.hd_num.specs.declared.vector.Vec3.{Vec3}
-use Rattle.hd_usda.specs.declared.lexer.Kind.TheVariants.{Text}
-use Rattle.hd_usda.specs.declared.fault.LayerWhy.TheVariants.{LeftOut}
-use Rattle.hd_usda.specs.declared.limits.Which.TheVariants.{Elements}
+use Rattle.hd_lexer.specs.declared.lexer.Kind.TheVariants.{Text}
+use Rattle.hd_layer.specs.declared.fault.LayerWhy.TheVariants.{LeftOut}
+use Rattle.hd_layer.specs.declared.limits.Which.TheVariants.{Elements}
 use Rattle.hd_usda.specs.declared.number_form.Demand.TheVariants.{Any, Turn}
-use Rattle.hd_usda.specs.declared.properties.Role.{Role}
-use Rattle.hd_usda.specs.declared.properties.Role.TheVariants.{Points, Numbers, Colors, ByteColors, OpOrder, Visibility, Purpose, Vector, Angle, Angles, Transform, ByteColor}
-use Rattle.hd_usda.specs.declared.spec.RawValue.{RawValue}
-use Rattle.hd_usda.specs.declared.spec.RawValue.TheVariants as raw
-use Rattle.hd_usda.specs.Limits.{limit_of}
-use Rattle.hd_usda.specs.Lexing.{Tokens}
+use Rattle.hd_tokens.specs.declared.properties.AttributeKind.{AttributeKind}
+use Rattle.hd_tokens.specs.declared.properties.AttributeKind.TheVariants.{Points, Numbers, Colors, ByteColors, OpOrder, Visibility, Purpose, Vector, Angle, Angles, Transform, ByteColor}
+use Rattle.hd_layer.specs.declared.spec.RawValue.{RawValue}
+use Rattle.hd_layer.specs.declared.spec.RawValue.TheVariants as raw
+use Rattle.hd_layer.specs.Limits.{limit_of}
+use Rattle.hd_lexer.specs.Lexing.{Tokens}
 use Rattle.hd_usda.specs.Cursors.{Fault, is, is_word, text, fault_at}
-use Rattle.hd_usda.specs.Metadata.{is_any}
-use Rattle.hd_usda.specs.Properties.{visibilities, purposes, is_op_entry}
+use Rattle.hd_tokens.specs.Names.{is_any}
+use Rattle.hd_tokens.specs.Properties.{visibilities, purposes, is_op_entry}
 use Rattle.hd_usda.specs.Numbers.{need, number, triple}
 use Rattle.hd_usda.specs.Elements.{list_of}
 use Rattle.hd_usda.specs.UsedValues.{numbers, triples, op_entry, op_entries, one_of, rows, single, whole, value_of, used_value}
-use Rattle.hd_usda.specs.WellFormed.{is_small, is_quarters, each_of, is_list, is_single, are_op_entries, are_small_rows, has_form}
+use Rattle.hd_layer.specs.WellFormed.{is_small, is_quarters, each_of, is_list, is_single, are_op_entries, are_small_rows, has_form}
 use Rattle.hd_usda.proofs.Answering.{answered, ok_same, past_fault, past_test}
 use Rattle.hd_usda.proofs.WellFormedNumbers.{needed, number_begins, number_small, number_quarters, triple_begins, triple_each, rows_are}
 use Rattle.hd_usda.proofs.WellFormedLists.{Checks, list_is, are_listed, are_list}
@@ -31,7 +31,7 @@ small_triple : (ts : Tokens) (v : Vec3) (u : Tokens) → triple Any ts ≡ Ok (v
 small_triple = triple_each Any is_small (number_small Any)
 
 triples_check : Checks triples (each_of is_small) (each_of is_small)
-triples_check = record { starts = small_triple; goes_on = small_triple; begins = triple_begins Any }
+triples_check = record { starts = small_triple; goes_on = small_triple; begins = λ ts v u e. rw (triple_begins Any ts v u e) refl }
 
 op_entry_is : (first : Bool) (ts : Tokens) (entry : List ℕ) (u : Tokens) → op_entry first ts ≡ Ok (entry, u) → is_op_entry first entry ≡ true
 unfolding op_entry
@@ -62,7 +62,7 @@ one_of_is words ts word u e =
     subst (λ q. is_any words q ≡ true) (ap (λ q. q.0) (ok_same b.1)) b.0
 
 -- what each answer of a form passes, a value of one such item does
-single_is : {A : Type 0} (make : List A → RawValue) (form : Tokens → Result (A × Tokens) Fault) (test : A → Bool) (role : Role)
+single_is : {A : Type 0} (make : List A → RawValue) (form : Tokens → Result (A × Tokens) Fault) (test : A → Bool) (role : AttributeKind)
     → ((ts : Tokens) (x : A) (u : Tokens) → form ts ≡ Ok (x, u) → test x ≡ true)
     → ((x : A) → is_single test (x ∷ []) ≡ true → has_form role (make (x ∷ [])) ≡ true)
     → (ts : Tokens) (v : RawValue) (u : Tokens) → single make form ts ≡ Ok (v, u) → has_form role v ≡ true
@@ -71,7 +71,7 @@ single_is {A} make form test role passes gives ts v u e =
     let one : is_single test (a.got.0 ∷ []) ≡ true = and_from (test a.got.0) true (passes ts a.got.0 a.got.1 a.first) refl in
     subst (λ q. has_form role q ≡ true) (ap (λ q. q.0) (ok_same a.after)) (gives a.got.0 one)
 
-whole_is : {A : Type 0} (make : A → RawValue) (form : Tokens → Result (A × Tokens) Fault) (test : A → Bool) (role : Role)
+whole_is : {A : Type 0} (make : A → RawValue) (form : Tokens → Result (A × Tokens) Fault) (test : A → Bool) (role : AttributeKind)
     → ((ts : Tokens) (x : A) (u : Tokens) → form ts ≡ Ok (x, u) → test x ≡ true)
     → ((x : A) → test x ≡ true → has_form role (make x) ≡ true)
     → (ts : Tokens) (v : RawValue) (u : Tokens) → whole make form ts ≡ Ok (v, u) → has_form role v ≡ true
@@ -88,7 +88,7 @@ numbers_are ts xs u e = are_list is_small xs (list_is numbers is_small is_small 
 order_is : (ts : Tokens) (xs : List (List ℕ)) (u : Tokens) → list_of op_entries ts ≡ Ok (xs, u) → are_op_entries xs ≡ true
 order_is ts xs u e = entries_are xs (list_is op_entries (is_op_entry true) (is_op_entry false) entries_check ts (xs, u) e)
 
-value_is : (role : Role) (ts : Tokens) (v : RawValue) (u : Tokens) → value_of role ts ≡ Ok (v, u) → has_form role v ≡ true
+value_is : (role : AttributeKind) (ts : Tokens) (v : RawValue) (u : Tokens) → value_of role ts ≡ Ok (v, u) → has_form role v ≡ true
 value_is Points = whole_is raw.Triples (list_of triples) (is_list (each_of is_small)) Points triples_are (λ x h. h)
 value_is Numbers = whole_is raw.Numbers (list_of numbers) (is_list is_small) Numbers numbers_are (λ x h. h)
 value_is Colors = whole_is raw.Triples (list_of triples) (is_list (each_of is_small)) Colors triples_are (λ x h. h)
@@ -102,6 +102,6 @@ value_is Angles = single_is raw.Triples (triple Turn) (each_of is_quarters) Angl
 value_is Transform = whole_is raw.Matrix rows are_small_rows Transform rows_are (λ x h. h)
 value_is ByteColor = single_is raw.Triples (triple Any) (each_of is_small) ByteColor small_triple (λ x h. h)
 
-pub used_value_is : (role : Role) (ts : Tokens) (v : RawValue) (u : Tokens) → used_value role ts ≡ Ok (v, u) → has_form role v ≡ true
+pub used_value_is : (role : AttributeKind) (ts : Tokens) (v : RawValue) (u : Tokens) → used_value role ts ≡ Ok (v, u) → has_form role v ≡ true
 unfolding used_value
 used_value_is role ts v u e = value_is role ts v u (past_fault (is_word (codes "None") ts) (fault_at ts LeftOut) (value_of role ts) e).1

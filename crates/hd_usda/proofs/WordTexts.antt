@@ -1,13 +1,13 @@
 -- A token that is a word has a text of ASCII.
 use Rattle.std.proofs.Common.{◌≡◌, ℕ, List, [], ◌∷◌, Bool, true, false, ◌||◌, not, ◌==◌, Option, Some, None, IsAscii, codes, nat_eq, drop, if◌then◌else◌, refl, sym, ap, subst, ◌∙◌}
 use Rattle.std.specs.List.{starts_with}
-use Rattle.hd_usda.specs.declared.lexer.Kind.{Kind}
-use Rattle.hd_usda.specs.declared.lexer.Kind.TheVariants.{Word, Number, Text, Asset, PathText, OpenRound, CloseRound, OpenSquare, CloseSquare, OpenCurly, CloseCurly, Equals, Comma, Colon, Semicolon, Point, Bad}
-use Rattle.hd_usda.specs.declared.lexer.Piece as coded
+use Rattle.hd_lexer.specs.declared.lexer.Kind.{Kind}
+use Rattle.hd_lexer.specs.declared.lexer.Kind.TheVariants.{Word, Number, Text, Asset, PathText, OpenRound, CloseRound, OpenSquare, CloseSquare, OpenCurly, CloseCurly, Equals, Comma, Colon, Semicolon, Point, Bad}
+use Rattle.hd_lexer.specs.declared.lexer.Piece as coded
 use Rattle.hd_path.specs.Names.{is_letter}
-use Rattle.hd_usda.specs.Lexing.{is_sign, mark_of, Piece, spelled, no_piece, number_len, number_piece, signed_piece, inside_len, on_line, between_three, short_piece, long_piece, quoted, piece_at, tokens_from}
+use Rattle.hd_lexer.specs.Lexing.{is_sign, mark_of, Piece, spelled, no_piece, number_len, number_piece, signed_piece, inside_len, on_line, between_three, short_piece, long_piece, quoted, piece_at, tokens_from}
 use Rattle.hd_usda.specs.Cursors.{kind, is, same_kind}
-use Rattle.hd_usda.specs.Scanned.{IsFirst, front}
+use Rattle.hd_lexer.specs.Scanned.{IsFirst, front}
 use Rattle.hd_usda.proofs.Heading.{kind_is}
 use Rattle.hd_usda.proofs.Ascii.{front_word_ascii}
 

@@ -3,9 +3,9 @@ use Rattle.std.proofs.Common.{◌≡◌, ℕ, zero, suc, ◌+◌, Bool, true, fa
 use Rattle.std.proofs.lemmas.Bool.{and_from, and_parts}
 use Rattle.std.specs.List.{list_all, prefix_len, starts_with}
 use Rattle.hd_path.specs.Names.{is_letter, is_word, is_identifier}
-use Rattle.hd_usda.specs.declared.lexer.Kind.{Kind}
-use Rattle.hd_usda.specs.declared.lexer.Kind.TheVariants.{Word, Number, Text, Asset, PathText, OpenRound, CloseRound, OpenSquare, CloseSquare, OpenCurly, CloseCurly, Equals, Comma, Colon, Semicolon, Point, Bad}
-use Rattle.hd_usda.specs.Lexing.{is_sign, is_blank, mark_of, Piece, spelled, no_piece, word_kind, word_piece, number_len, number_piece, signed_piece, on_line, inside_len, short_piece, long_piece, quoted, piece_at, line_after, blank_more, Token, at_line, cut, Tokens, tokens_from, between_three}
+use Rattle.hd_lexer.specs.declared.lexer.Kind.{Kind}
+use Rattle.hd_lexer.specs.declared.lexer.Kind.TheVariants.{Word, Number, Text, Asset, PathText, OpenRound, CloseRound, OpenSquare, CloseSquare, OpenCurly, CloseCurly, Equals, Comma, Colon, Semicolon, Point, Bad}
+use Rattle.hd_lexer.specs.Lexing.{is_sign, is_blank, mark_of, Piece, spelled, no_piece, word_kind, word_piece, number_len, number_piece, signed_piece, on_line, inside_len, short_piece, long_piece, quoted, piece_at, line_after, blank_more, Token, at_line, cut, Tokens, tokens_from, between_three}
 use Rattle.hd_usda.specs.Cursors.{same_kind, first_kind, first_text, is, rest, tail, text}
 
 -- a token of this kind and text is no word, or an identifier

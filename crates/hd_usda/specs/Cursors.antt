@@ -2,13 +2,13 @@
 -- or the first fault that is met.
 use Rattle.std.specs.Prelude.{◌≡◌, ℕ, List, [], ◌∷◌, length, Result, Ok, Err, Bool, ◌&&◌, ◌==◌, if◌then◌else◌}
 use Rattle.std.specs.Str.{bytes_eq}
-use Rattle.hd_usda.specs.declared.lexer.Kind.{Kind}
-use Rattle.hd_usda.specs.declared.lexer.Kind.TheVariants.{Word, Number, Text, Asset, PathText, OpenRound, CloseRound, OpenSquare, CloseSquare, OpenCurly, CloseCurly, Equals, Comma, Colon, Semicolon, Point, Bad, End}
-use Rattle.hd_usda.specs.declared.fault.LayerWhy.{LayerWhy}
-use Rattle.hd_usda.specs.declared.fault.LayerWhy.TheVariants.{Syntax}
-use Rattle.hd_usda.specs.declared.fault.LayerFault.{LayerFault}
-use Rattle.hd_usda.specs.declared.fault.LayerFault.TheVariants.{At, NoMemory}
-use Rattle.hd_usda.specs.Lexing.{Token, Tokens}
+use Rattle.hd_lexer.specs.declared.lexer.Kind.{Kind}
+use Rattle.hd_lexer.specs.declared.lexer.Kind.TheVariants.{Word, Number, Text, Asset, PathText, OpenRound, CloseRound, OpenSquare, CloseSquare, OpenCurly, CloseCurly, Equals, Comma, Colon, Semicolon, Point, Bad, End}
+use Rattle.hd_layer.specs.declared.fault.LayerWhy.{LayerWhy}
+use Rattle.hd_layer.specs.declared.fault.LayerWhy.TheVariants.{Syntax}
+use Rattle.hd_layer.specs.declared.fault.LayerFault.{LayerFault}
+use Rattle.hd_layer.specs.declared.fault.LayerFault.TheVariants.{At, NoMemory}
+use Rattle.hd_lexer.specs.Lexing.{Token, Tokens}
 
 -- a fault of the text: its line, and what is wrong
 pub record Fault : Type 0 where

@@ -1,19 +1,19 @@
 -- Lists in the values of used properties.
 use Rattle.std.specs.Prelude.{ℕ, List, [], ◌∷◌, ◌++◌, length, Bool, true, false, ◌&&◌, nat_le, Ok, Err, if◌then◌else◌}
-use Rattle.hd_usda.specs.declared.lexer.Kind.{Kind}
-use Rattle.hd_usda.specs.declared.lexer.Kind.TheVariants.{OpenSquare, CloseSquare, Comma}
-use Rattle.hd_usda.specs.declared.fault.LayerWhy.{LayerWhy}
-use Rattle.hd_usda.specs.declared.fault.LayerWhy.TheVariants.{Limit}
-use Rattle.hd_usda.specs.declared.limits.Which.TheVariants.{Elements}
-use Rattle.hd_usda.specs.Limits.{limit_of}
+use Rattle.hd_lexer.specs.Lexing.{Tokens}
+use Rattle.hd_lexer.specs.declared.lexer.Kind.TheVariants.{OpenSquare, CloseSquare, Comma}
+use Rattle.hd_layer.specs.declared.fault.LayerWhy.{LayerWhy}
+use Rattle.hd_layer.specs.declared.fault.LayerWhy.TheVariants.{Limit}
+use Rattle.hd_layer.specs.declared.limits.Which.TheVariants.{Elements}
+use Rattle.hd_layer.specs.Limits.{limit_of}
 use Rattle.hd_usda.specs.Cursors.{◌>>=◌, Form, is, rest, text, fault_at}
 use Rattle.hd_usda.specs.Loops.{all}
 use Rattle.hd_usda.specs.Numbers.{need}
 
--- how an element is read: whether it stands in the value of an attribute, the kind of its first token, what is wrong with that token beyond the limit of elements, and its form, where it is told whether it is the first
+-- how an element is read: whether it is in the value of an attribute, whether the next token counts as its beginning, what is wrong with that token beyond the limit of elements, and its form, which is told whether it is the first
 pub record Reads (A : Type 0) : Type 1 where
   pub attribute : Bool
-  pub begins : Kind
+  pub begins : Tokens → Bool
   pub beyond : List ℕ → LayerWhy
   pub form : Bool → Form A
 
@@ -24,7 +24,7 @@ too_many text = Limit Elements
 -- an element behind others, of which there may be no more than the limit
 unfoldable pub one_more : {A : Type 0} → Reads A → List A → Form (List A)
 one_more how found ts =
-    if is how.begins ts && nat_le (limit_of Elements) (length found) then Err (fault_at ts (how.beyond (text ts)))
+    if how.begins ts && nat_le (limit_of Elements) (length found) then Err (fault_at ts (how.beyond (text ts)))
     else (how.form false ts >>= λ x. Ok (found ++ x.0 ∷ [], x.1))
 
 -- "," [element], where nothing but the end of the list may stand in the place of the element

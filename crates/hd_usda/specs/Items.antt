@@ -3,21 +3,22 @@ use Rattle.std.specs.Prelude.{ℕ, ◌-◌, List, [], ◌∷◌, ◌++◌, Bool,
 use Rattle.std.specs.Ordering.{nat_cmp}
 use Rattle.std.specs.Cmp.Lexicographic.{slice_cmp}
 use Rattle.std.specs.FinSet.{FinSet, contains, insert}
-use Rattle.hd_usda.specs.declared.lexer.Kind.TheVariants.{Word, Number, OpenSquare, CloseSquare, OpenCurly, CloseCurly, Equals, Comma, Colon, Point}
-use Rattle.hd_usda.specs.declared.fault.LayerWhy.TheVariants.{Syntax, Twice, LeftOut}
-use Rattle.hd_usda.specs.declared.limits.Which.TheVariants.{Nesting}
-use Rattle.hd_usda.specs.declared.properties.Role.{Role}
+use Rattle.hd_lexer.specs.declared.lexer.Kind.TheVariants.{Word, Number, OpenSquare, CloseSquare, OpenCurly, CloseCurly, Equals, Comma, Colon, Point}
+use Rattle.hd_layer.specs.declared.fault.LayerWhy.TheVariants.{Syntax, Twice, LeftOut}
+use Rattle.hd_layer.specs.declared.limits.Which.TheVariants.{Nesting}
+use Rattle.hd_tokens.specs.declared.properties.AttributeKind.{AttributeKind}
 use Rattle.hd_usda.specs.declared.attribute.Tail.{Tail}
 use Rattle.hd_usda.specs.declared.attribute.Tail.TheVariants.{Plain, Connect, Samples, Other}
-use Rattle.hd_usda.specs.declared.spec.Property.{Property}
-use Rattle.hd_usda.specs.declared.spec.RawValue.TheVariants.{Paths}
-use Rattle.hd_usda.specs.Limits.{limit_of}
-use Rattle.hd_usda.specs.Lexing.{Tokens}
+use Rattle.hd_layer.specs.declared.spec.Property.{Property}
+use Rattle.hd_layer.specs.declared.spec.RawValue.TheVariants.{Paths}
+use Rattle.hd_layer.specs.Limits.{limit_of}
+use Rattle.hd_lexer.specs.Lexing.{Tokens}
 use Rattle.hd_usda.specs.Cursors.{◌>>=◌, Fault, Past, Form, is, is_word, rest, text, line_of, fault_in, fault_at, take}
 use Rattle.hd_usda.specs.Loops.{past, chain}
 use Rattle.hd_usda.specs.Values.{value}
-use Rattle.hd_usda.specs.Metadata.{is_any, list_ops, metadata}
-use Rattle.hd_usda.specs.Properties.{role_of, is_used, is_target_name, allows}
+use Rattle.hd_usda.specs.Metadata.{list_ops, metadata}
+use Rattle.hd_tokens.specs.Names.{is_any}
+use Rattle.hd_tokens.specs.Properties.{attribute_kind_of, is_used, is_target_name, allows}
 use Rattle.hd_usda.specs.Targets.{targets}
 use Rattle.hd_usda.specs.UsedValues.{used_value}
 
@@ -97,7 +98,7 @@ relation_value used name body ts =
 
 -- the name of a relationship is left out
 abbrev pub is_misnamed_relation : Bool → List ℕ → Bool
-is_misnamed_relation listed name = is_used (role_of name) || (listed && is_target_name name)
+is_misnamed_relation listed name = is_used (attribute_kind_of name) || (listed && is_target_name name)
 
 -- pname ["=" value] [meta], behind the `rel`, in a prim whose properties may be used
 unfoldable pub relation : Bool → Bool → Body → Form Body
@@ -139,13 +140,13 @@ pub record Lead : Type 0 where
   pub brackets : Bool
 
 -- an attribute of this role is left out, for its type or its tail
-abbrev pub misfits : Option Role → Lead → Tail → Bool
+abbrev pub misfits : Option AttributeKind → Lead → Tail → Bool
 misfits None lead tail = false
 misfits (Some role) lead tail = lead.listed || not (allows role lead.word lead.brackets) || is_samples tail
 
 -- the name of an attribute is left out
 abbrev pub is_misnamed : List ℕ → Lead → Tail → Bool
-is_misnamed name lead tail = is_target_name name || misfits (role_of name) lead tail
+is_misnamed name lead tail = is_target_name name || misfits (attribute_kind_of name) lead tail
 
 -- what is wrong with what stands behind a point in place of a tail
 abbrev pub no_tail : Bool → ℕ → Tokens → Fault
@@ -184,20 +185,20 @@ samples_value ts = do
   samples u
 
 -- ["=" value] of an attribute that is used or not
-abbrev pub plain_value : Option Role → List ℕ → Body → Form Body
+abbrev pub plain_value : Option AttributeKind → List ℕ → Body → Form Body
 plain_value None name body ts = some_value ts >>= λ u. Ok (body, u)
 plain_value (Some role) name body ts =
     if is Equals ts then (used_value role (rest ts) >>= λ v. Ok (with_value body (record { name = name; value = v.0 }), v.1)) else Ok (body, ts)
 
 -- what a tail says
-abbrev pub tail_value : Tail → Option Role → List ℕ → Body → Form Body
+abbrev pub tail_value : Tail → Option AttributeKind → List ℕ → Body → Form Body
 tail_value Plain role name body ts = plain_value role name body ts
 tail_value Connect role name body ts = some_value ts >>= λ u. Ok (body, u)
 tail_value Samples role name body ts = samples_value ts >>= λ u. Ok (body, u)
 tail_value Other role name body ts = Err (fault_at ts Syntax)
 
-abbrev pub own_role : Bool → List ℕ → Option Role
-own_role used name = if used then role_of name else None
+abbrev pub own_role : Bool → List ℕ → Option AttributeKind
+own_role used name = if used then attribute_kind_of name else None
 
 -- what stands behind the name of an attribute: [tail] [meta]
 unfoldable pub behind_name : Bool → Lead → Joined → Body → Form Body

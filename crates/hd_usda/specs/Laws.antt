@@ -1,9 +1,14 @@
--- What the repetitions of the grammar's definitions are.
-use Rattle.std.specs.Prelude.{◌≡◌, ℕ, ◌<◌, Ok, if◌then◌else◌}
-use Rattle.hd_usda.specs.declared.lexer.Kind.{Kind}
-use Rattle.hd_usda.specs.Lexing.{Tokens}
-use Rattle.hd_usda.specs.Cursors.{◌>>=◌, Past, Form, is, rest, count}
+-- What the repetitions of the grammar's definitions are, and what a prim has of one item or property.
+use Rattle.std.specs.Prelude.{◌≡◌, ℕ, ◌<◌, List, [], ◌∷◌, Option, None, Some, Result, Ok, Err, Bool, true, false, if◌then◌else◌, codes}
+use Rattle.hd_lexer.specs.declared.lexer.Kind.{Kind}
+use Rattle.hd_lexer.specs.declared.lexer.Kind.TheVariants.{Equals}
+use Rattle.hd_layer.specs.declared.spec.Property.{Property}
+use Rattle.hd_lexer.specs.Lexing.{Tokens}
+use Rattle.hd_usda.specs.Cursors.{◌>>=◌, Fault, Past, Form, is, is_word, rest, count}
 use Rattle.hd_usda.specs.Loops.{past, past_by, all, all_by, chain, chain_by}
+use Rattle.hd_usda.specs.Items.{list_op, past_modifiers, own_type, pname, property}
+use Rattle.hd_usda.specs.Prims.{Found, PrimForm, empty_body, inside_new, item}
+use Rattle.hd_usda.specs.Statements.{ends}
 
 -- form* close is the closing token, or one form and form* close again, and each bound beyond the tokens that are left gives the same
 pub record PastRepeats (close : Kind) (form : Past) : Type 0 where
@@ -19,3 +24,43 @@ pub record AllRepeats {S : Type 0} (close : Kind) (form : S → Form S) : Type 0
 pub record ChainRepeats {S : Type 0} (separator : Kind) (form : S → Form S) : Type 0 where
   pub again : (s : S) (ts : Tokens) → chain separator form s ts ≡ (if is separator ts then (form s (rest ts) >>= λ r. chain separator form r.0 r.1) else Ok (s, ts))
   pub any_bound : (n : ℕ) (s : S) (ts : Tokens) → count ts < n → chain_by separator form n s ts ≡ chain separator form s ts
+
+-- the values of a prim that has these tokens alone, where they are one item
+unfoldable pub item_values : PrimForm → Found → Tokens → Result (List Property) Fault
+item_values prim found ts = do
+  r ← item prim true (inside_new found) ts
+  u ← ends r.1
+  Ok r.0.body.values
+
+-- the property, if there is one
+abbrev pub values_of : Option Property → List Property
+values_of None = []
+values_of (Some property) = property ∷ []
+
+-- the tokens after the name of a relationship or an attribute
+unfoldable pub after_own_name : Past
+after_own_name ts = if is_word (codes "rel") ts then (pname (rest ts) >>= λ p. Ok p.1) else (own_type ts >>= λ t. pname t.1 >>= λ p. Ok p.1)
+
+-- the tokens after the name of a property
+unfoldable pub after_property_name : Past
+after_property_name ts = list_op ts >>= λ l. after_own_name (past_modifiers l.1)
+
+abbrev pub begins_with_equals : Result Tokens Fault → Bool
+begins_with_equals (Ok ts) = is Equals ts
+begins_with_equals (Err fault) = false
+
+-- a property with "=" after its name
+abbrev pub has_equals : Tokens → Bool
+has_equals ts = begins_with_equals (after_property_name ts)
+
+-- the values of a prim that has these tokens alone, where they are one property
+unfoldable pub property_values : Tokens → Result (List Property) Fault
+property_values ts = do
+  b ← property true empty_body ts
+  u ← ends b.1
+  Ok b.0.values
+
+-- the property that was read, if there is one, or the fault
+abbrev pub as_values : Result (Option Property) Fault → Result (List Property) Fault
+as_values (Ok property) = Ok (values_of property)
+as_values (Err fault) = Err fault

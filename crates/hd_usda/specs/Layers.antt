@@ -2,9 +2,9 @@
 use Rattle.std.specs.Prelude.{ℕ, List, [], ◌∷◌, length, take, drop, Bool, true, ◌&&◌, ◌==◌, Result, Ok, Err, if◌then◌else◌, codes, nat_eq}
 use Rattle.std.specs.List.{starts_with}
 use Rattle.std.specs.Str.Lossy.{utf8_valid_len}
-use Rattle.hd_usda.specs.declared.fault.LayerWhy.TheVariants.{Header, NotUtf8}
-use Rattle.hd_usda.specs.declared.spec.LayerSpec.{LayerSpec}
-use Rattle.hd_usda.specs.Lexing.{is_space, tokens_from, line_over}
+use Rattle.hd_layer.specs.declared.fault.LayerWhy.TheVariants.{Header, NotUtf8}
+use Rattle.hd_layer.specs.declared.spec.LayerSpec.{LayerSpec}
+use Rattle.hd_lexer.specs.Lexing.{is_space, tokens_from, line_over}
 use Rattle.hd_usda.specs.Cursors.{◌>>=◌, Fault, fault_in}
 use Rattle.hd_usda.specs.Prims.{layer}
 

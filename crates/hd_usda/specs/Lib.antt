@@ -1,16 +1,9 @@
-pub mod Limits
-pub mod Lexing
-pub mod Scanned
 pub mod Cursors
 pub mod Loops
 pub mod Values
 pub mod Metadata
 pub mod Names
-pub mod Properties
-pub mod Decimals
-pub mod DecimalViews
 pub mod Numbers
-pub mod Exactly
 pub mod Elements
 pub mod Targets
 pub mod UsedValues
@@ -21,5 +14,3 @@ pub mod PrimViews
 pub mod Layers
 pub mod Statements
 pub mod Laws
-pub mod WellFormed
-pub mod Edits

@@ -1,7 +1,7 @@
 -- Repetition: one form after the other.
 use Rattle.std.specs.Prelude.{ℕ, zero, suc, Ok, Err, if◌then◌else◌}
-use Rattle.hd_usda.specs.declared.lexer.Kind.{Kind}
-use Rattle.hd_usda.specs.declared.fault.LayerWhy.TheVariants.{Syntax}
+use Rattle.hd_lexer.specs.declared.lexer.Kind.{Kind}
+use Rattle.hd_layer.specs.declared.fault.LayerWhy.TheVariants.{Syntax}
 use Rattle.hd_usda.specs.Cursors.{◌>>=◌, Past, Form, is, rest, count, fault_at}
 
 -- form* close, with fewer than n forms; each takes a token, so one more than the tokens that are left is enough

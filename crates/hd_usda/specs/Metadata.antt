@@ -1,19 +1,15 @@
 -- Metadata, of which nothing is kept.
 use Rattle.std.specs.Prelude.{ℕ, ◌-◌, List, [], ◌∷◌, Bool, ◌||◌, ◌&&◌, Ok, Err, if◌then◌else◌, codes}
 use Rattle.std.specs.Str.{bytes_eq}
-use Rattle.std.specs.List.{list_any}
-use Rattle.hd_usda.specs.declared.lexer.Kind.TheVariants.{Word, Number, Text, OpenRound, CloseRound, Equals, Semicolon}
-use Rattle.hd_usda.specs.declared.fault.LayerWhy.TheVariants.{LeftOut}
-use Rattle.hd_usda.specs.declared.limits.Which.TheVariants.{Nesting}
-use Rattle.hd_usda.specs.Limits.{limit_of}
-use Rattle.hd_usda.specs.Lexing.{Tokens}
+use Rattle.hd_tokens.specs.Names.{is_any}
+use Rattle.hd_lexer.specs.declared.lexer.Kind.TheVariants.{Word, Number, Text, OpenRound, CloseRound, Equals, Semicolon}
+use Rattle.hd_layer.specs.declared.fault.LayerWhy.TheVariants.{LeftOut}
+use Rattle.hd_layer.specs.declared.limits.Which.TheVariants.{Nesting}
+use Rattle.hd_layer.specs.Limits.{limit_of}
+use Rattle.hd_lexer.specs.Lexing.{Tokens}
 use Rattle.hd_usda.specs.Cursors.{◌>>=◌, Past, is, is_word, rest, text, line_of, fault_in, fault_at, take, past_one}
 use Rattle.hd_usda.specs.Loops.{past}
 use Rattle.hd_usda.specs.Values.{value}
-
--- the text is one of the words
-abbrev pub is_any : List (List ℕ) → List ℕ → Bool
-is_any words text = list_any (bytes_eq text) words
 
 -- what may stand before a key or a property
 abbrev pub list_ops : List (List ℕ)

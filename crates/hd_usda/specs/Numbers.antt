@@ -2,25 +2,29 @@
 use Rattle.std.specs.Prelude.{ℕ, ℤ, List, [], ◌∷◌, Bool, true, ◌&&◌, ◌||◌, not, Option, Some, None, Result, Ok, Err, if◌then◌else◌, codes}
 use Rattle.std.specs.Str.{bytes_eq}
 use Rattle.hd_num.specs.declared.vector.Vec3.{Vec3}
-use Rattle.hd_usda.specs.declared.lexer.Kind.{Kind}
-use Rattle.hd_usda.specs.declared.lexer.Kind.TheVariants.{Number, OpenRound, CloseRound, Comma}
-use Rattle.hd_usda.specs.declared.fault.LayerWhy.{LayerWhy}
-use Rattle.hd_usda.specs.declared.fault.LayerWhy.TheVariants.{Syntax, LeftOut, Fraction, Limit}
-use Rattle.hd_usda.specs.declared.limits.Which.TheVariants.{Literal}
+use Rattle.hd_lexer.specs.declared.lexer.Kind.{Kind}
+use Rattle.hd_lexer.specs.declared.lexer.Kind.TheVariants.{Number, OpenRound, CloseRound, Comma}
+use Rattle.hd_layer.specs.declared.fault.LayerWhy.{LayerWhy}
+use Rattle.hd_layer.specs.declared.fault.LayerWhy.TheVariants.{Syntax, LeftOut, Fraction, Limit}
+use Rattle.hd_layer.specs.declared.limits.Which.TheVariants.{Literal}
 use Rattle.hd_usda.specs.declared.number_form.Demand.{Demand}
 use Rattle.hd_usda.specs.declared.number_form.Demand.TheVariants.{Any, Turn, Zero, One}
-use Rattle.hd_usda.specs.Lexing.{Tokens}
+use Rattle.hd_lexer.specs.Lexing.{Tokens}
 use Rattle.hd_usda.specs.Cursors.{◌>>=◌, Fault, Past, Form, is, rest, text, line_of, fault_in, fault_at}
-use Rattle.hd_usda.specs.Decimals.{Decimal, parts_of, amount, is_fractional, within_limit}
-use Rattle.hd_usda.specs.Exactly.{is_turn, is_nought, is_one}
+use Rattle.hd_lexer.specs.Decimals.{Decimal, parts_of, amount, is_fractional, within_limit}
+use Rattle.hd_lexer.specs.Exactly.{is_turn, is_nought, is_one}
 
 -- `inf`, `-inf` or `nan`
 abbrev pub is_endless : List ℕ → Bool
 is_endless text = bytes_eq text (codes "inf") || bytes_eq text (codes "-inf") || bytes_eq text (codes "nan")
 
+-- the next token is a number that is not finite
+abbrev pub is_non_finite : Tokens → Bool
+is_non_finite ts = is Number ts && is_endless (text ts)
+
 -- what is wrong with a token that departs from the value of an attribute or a relationship: in that of an attribute, numbers that are not finite are left out
 unfoldable pub departs : Bool → Tokens → LayerWhy
-departs attribute ts = if attribute && is Number ts && is_endless (text ts) then LeftOut else Syntax
+departs attribute ts = if attribute && is_non_finite ts then LeftOut else Syntax
 
 -- the tokens behind the next, which is of this kind
 unfoldable pub need : Bool → Kind → Past

@@ -2,24 +2,20 @@
 use Rattle.std.specs.Prelude.{ℕ, zero, suc, ◌+◌, List, [], ◌∷◌, ◌++◌, map, Bool, false, ◌&&◌, ◌||◌, not, ◌==◌, nat_le, Result, Ok, Err, if◌then◌else◌, codes}
 use Rattle.std.specs.FinSet.{empty}
 use Rattle.std.specs.BTreeMap.{insert_entry}
-use Rattle.hd_path.specs.Paths.{path_cmp}
+use Rattle.hd_path.specs.Paths.{Path, path_cmp}
 use Rattle.hd_path.specs.Names.{is_identifier}
-use Rattle.hd_usda.specs.declared.lexer.Kind.TheVariants.{Word, Text, OpenCurly, CloseCurly, Semicolon, End}
-use Rattle.hd_usda.specs.declared.fault.LayerWhy.TheVariants.{Syntax, LeftOut, Limit}
-use Rattle.hd_usda.specs.declared.limits.Which.TheVariants.{Prims, Depth, Name}
-use Rattle.hd_usda.specs.declared.spec.PrimSpec.{PrimSpec}
-use Rattle.hd_usda.specs.declared.spec.LayerSpec.{LayerSpec}
-use Rattle.hd_usda.specs.Limits.{limit_of}
-use Rattle.hd_usda.specs.Lexing.{Tokens}
+use Rattle.hd_lexer.specs.declared.lexer.Kind.TheVariants.{Word, Text, OpenCurly, CloseCurly, Semicolon, End}
+use Rattle.hd_layer.specs.declared.fault.LayerWhy.TheVariants.{Syntax, LeftOut, Limit}
+use Rattle.hd_layer.specs.declared.limits.Which.TheVariants.{Prims, Depth, Name}
+use Rattle.hd_layer.specs.declared.spec.PrimSpec.{PrimSpec}
+use Rattle.hd_layer.specs.declared.spec.LayerSpec.{LayerSpec}
+use Rattle.hd_layer.specs.Limits.{limit_of}
+use Rattle.hd_lexer.specs.Lexing.{Tokens}
 use Rattle.hd_usda.specs.Cursors.{◌>>=◌, Fault, Form, is, is_word, rest, text, line_of, fault_in, fault_at, take, past_one}
 use Rattle.hd_usda.specs.Loops.{all}
 use Rattle.hd_usda.specs.Metadata.{metadata}
 use Rattle.hd_usda.specs.Items.{Seen, Body, new_name, property}
 use Rattle.hd_usda.specs.Names.{is_long}
-
--- a path is the list of its names
-abbrev pub Path : Type 0
-Path = List (List ℕ)
 
 -- the prims that ended so far, by their paths, and the number of those that began
 pub record Found : Type 0 where

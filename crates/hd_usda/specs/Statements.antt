@@ -1,19 +1,19 @@
 -- One property with its value, as the text of a script has it.
 use Rattle.std.specs.Prelude.{ℕ, List, Bool, Option, Some, None, Result, Ok, Err, if◌then◌else◌, codes}
-use Rattle.hd_usda.specs.declared.lexer.Kind.TheVariants.{Word, Equals, Point, End}
-use Rattle.hd_usda.specs.declared.fault.LayerWhy.TheVariants.{Syntax, LeftOut}
+use Rattle.hd_lexer.specs.declared.lexer.Kind.TheVariants.{Word, Equals, Point, End}
+use Rattle.hd_layer.specs.declared.fault.LayerWhy.TheVariants.{Syntax, LeftOut}
 use Rattle.hd_usda.specs.declared.attribute.Tail.TheVariants.{Plain}
-use Rattle.hd_usda.specs.declared.limits.Which.TheVariants.{Nesting}
-use Rattle.hd_usda.specs.declared.properties.Role.{Role}
-use Rattle.hd_usda.specs.declared.spec.Property.{Property}
-use Rattle.hd_usda.specs.declared.spec.RawValue.{RawValue}
-use Rattle.hd_usda.specs.declared.spec.RawValue.TheVariants.{Paths}
-use Rattle.hd_usda.specs.Limits.{limit_of}
-use Rattle.hd_usda.specs.Lexing.{Tokens, tokens_from}
+use Rattle.hd_layer.specs.declared.limits.Which.TheVariants.{Nesting}
+use Rattle.hd_tokens.specs.declared.properties.AttributeKind.{AttributeKind}
+use Rattle.hd_layer.specs.declared.spec.Property.{Property}
+use Rattle.hd_layer.specs.declared.spec.RawValue.{RawValue}
+use Rattle.hd_layer.specs.declared.spec.RawValue.TheVariants.{Paths}
+use Rattle.hd_layer.specs.Limits.{limit_of}
+use Rattle.hd_lexer.specs.Lexing.{Tokens, tokens_from}
 use Rattle.hd_usda.specs.Cursors.{◌>>=◌, Fault, Past, Form, is, is_word, rest, fault_in, fault_at, take}
 use Rattle.hd_usda.specs.Values.{value}
 use Rattle.hd_usda.specs.Metadata.{metadata}
-use Rattle.hd_usda.specs.Properties.{role_of, is_target_name}
+use Rattle.hd_tokens.specs.Properties.{attribute_kind_of, is_target_name}
 use Rattle.hd_usda.specs.Targets.{targets}
 use Rattle.hd_usda.specs.UsedValues.{used_value}
 use Rattle.hd_usda.specs.Items.{list_op, past_modifiers, own_type, pname, is_misnamed, is_misnamed_relation}
@@ -23,7 +23,7 @@ unfoldable pub equals : Past
 equals ts = if is Point ts then Err (fault_at (rest ts) (if is Word (rest ts) then LeftOut else Syntax)) else take Equals ts
 
 -- a value of an attribute of this role, or of one that is not used
-abbrev pub attribute_value : Option Role → Form (Option RawValue)
+abbrev pub attribute_value : Option AttributeKind → Form (Option RawValue)
 attribute_value None ts = value (limit_of Nesting) ts >>= λ u. Ok (None, u)
 attribute_value (Some role) ts = used_value role ts >>= λ v. Ok (Some v.0, v.1)
 
@@ -56,7 +56,7 @@ attribute listed ts = do
   p ← pname t.1
   u ← admitted (is_misnamed p.0.name (record { listed = listed; word = t.0.0; brackets = t.0.1 }) Plain) p.0.line p.1
   w ← equals u
-  v ← attribute_value (role_of p.0.name) w
+  v ← attribute_value (attribute_kind_of p.0.name) w
   Ok (named p.0.name v.0, v.1)
 
 -- a relationship or an attribute

@@ -1,11 +1,11 @@
 -- The paths of used relationships.
 use Rattle.std.specs.Prelude.{ℕ, List, [], ◌∷◌, Bool, false, ◌&&◌, not, nat_lt, drop, count_by, Result, Ok, Err, if◌then◌else◌, codes}
 use Rattle.std.specs.List.{list_all, list_any}
-use Rattle.hd_usda.specs.declared.lexer.Kind.TheVariants.{PathText}
-use Rattle.hd_usda.specs.declared.fault.LayerWhy.{LayerWhy}
-use Rattle.hd_usda.specs.declared.fault.LayerWhy.TheVariants.{LeftOut, Limit}
-use Rattle.hd_usda.specs.declared.limits.Which.TheVariants.{Depth, Name, Elements}
-use Rattle.hd_usda.specs.Limits.{limit_of}
+use Rattle.hd_lexer.specs.declared.lexer.Kind.TheVariants.{PathText}
+use Rattle.hd_layer.specs.declared.fault.LayerWhy.{LayerWhy}
+use Rattle.hd_layer.specs.declared.fault.LayerWhy.TheVariants.{LeftOut, Limit}
+use Rattle.hd_layer.specs.declared.limits.Which.TheVariants.{Depth, Name, Elements}
+use Rattle.hd_layer.specs.Limits.{limit_of}
 use Rattle.hd_path.specs.Names.{is_identifier}
 use Rattle.hd_path.specs.Parsing.{is_slash, pieces}
 use Rattle.hd_usda.specs.Cursors.{◌>>=◌, Fault, Form, is, is_word, rest, text, line_of, fault_in, take}
@@ -62,7 +62,7 @@ beyond_list text =
 
 -- paths in a list
 abbrev pub in_list : Reads (List (List ℕ))
-in_list = record { attribute = false; begins = PathText; beyond = beyond_list; form = λ first. target }
+in_list = record { attribute = false; begins = is PathText; beyond = beyond_list; form = λ first. target }
 
 -- targets = "None" | PATHTEXT | list of PATHTEXT
 unfoldable pub targets : Form (List (List (List ℕ)))

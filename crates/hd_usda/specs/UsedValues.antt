@@ -1,26 +1,26 @@
 -- The values of used attributes.
-use Rattle.std.specs.Prelude.{ℕ, ℤ, List, [], ◌∷◌, Bool, true, Ok, Err, if◌then◌else◌, codes}
+use Rattle.std.specs.Prelude.{ℕ, ℤ, List, [], ◌∷◌, Bool, true, ◌||◌, Ok, Err, if◌then◌else◌, codes}
 use Rattle.hd_num.specs.declared.vector.Vec3.{Vec3}
 use Rattle.hd_num.specs.Matrices.{Rows}
-use Rattle.hd_usda.specs.declared.lexer.Kind.TheVariants.{Text, OpenRound, CloseRound, Number, Comma}
-use Rattle.hd_usda.specs.declared.fault.LayerWhy.TheVariants.{LeftOut}
+use Rattle.hd_lexer.specs.declared.lexer.Kind.TheVariants.{Text, OpenRound, CloseRound, Number, Comma}
+use Rattle.hd_layer.specs.declared.fault.LayerWhy.TheVariants.{LeftOut}
 use Rattle.hd_usda.specs.declared.number_form.Demand.TheVariants.{Any, Turn, Zero, One}
-use Rattle.hd_usda.specs.declared.properties.Role.{Role}
-use Rattle.hd_usda.specs.declared.properties.Role.TheVariants.{Points, Numbers, Colors, ByteColors, OpOrder, Visibility, Purpose, Vector, Angle, Angles, Transform, ByteColor}
-use Rattle.hd_usda.specs.declared.spec.RawValue.{RawValue}
-use Rattle.hd_usda.specs.declared.spec.RawValue.TheVariants as raw
-use Rattle.hd_usda.specs.Cursors.{◌>>=◌, Form, is_word, text, fault_at}
-use Rattle.hd_usda.specs.Metadata.{is_any}
-use Rattle.hd_usda.specs.Properties.{visibilities, purposes, is_op_entry}
-use Rattle.hd_usda.specs.Numbers.{need, number, triple, row}
+use Rattle.hd_tokens.specs.declared.properties.AttributeKind.{AttributeKind}
+use Rattle.hd_tokens.specs.declared.properties.AttributeKind.TheVariants.{Points, Numbers, Colors, ByteColors, OpOrder, Visibility, Purpose, Vector, Angle, Angles, Transform, ByteColor}
+use Rattle.hd_layer.specs.declared.spec.RawValue.{RawValue}
+use Rattle.hd_layer.specs.declared.spec.RawValue.TheVariants as raw
+use Rattle.hd_usda.specs.Cursors.{◌>>=◌, Form, is, is_word, text, fault_at}
+use Rattle.hd_tokens.specs.Names.{is_any}
+use Rattle.hd_tokens.specs.Properties.{visibilities, purposes, is_op_entry}
+use Rattle.hd_usda.specs.Numbers.{is_non_finite, need, number, triple, row}
 use Rattle.hd_usda.specs.Elements.{Reads, too_many, list_of}
 
--- numbers, triples and strings in lists
+-- numbers, triples and strings in lists: in a list of triples a number that is not finite counts as the beginning of one
 abbrev pub numbers : Reads ℤ
-numbers = record { attribute = true; begins = Number; beyond = too_many; form = λ first. number Any }
+numbers = record { attribute = true; begins = is Number; beyond = too_many; form = λ first. number Any }
 
 abbrev pub triples : Reads Vec3
-triples = record { attribute = true; begins = OpenRound; beyond = too_many; form = λ first. triple Any }
+triples = record { attribute = true; begins = λ ts. is OpenRound ts || is_non_finite ts; beyond = too_many; form = λ first. triple Any }
 
 -- STRING, which is an entry of an op order
 unfoldable pub op_entry : Bool → Form (List ℕ)
@@ -29,7 +29,7 @@ op_entry first ts = do
   if is_op_entry first (text ts) then Ok (text ts, u) else Err (fault_at ts LeftOut)
 
 abbrev pub op_entries : Reads (List ℕ)
-op_entries = record { attribute = true; begins = Text; beyond = too_many; form = op_entry }
+op_entries = record { attribute = true; begins = is Text; beyond = too_many; form = op_entry }
 
 -- STRING, which is one of the words
 unfoldable pub one_of : List (List ℕ) → Form (List ℕ)
@@ -60,7 +60,7 @@ abbrev pub whole : {A : Type 0} → (A → RawValue) → Form A → Form RawValu
 whole make form ts = form ts >>= λ x. Ok (make x.0, x.1)
 
 -- the value that an attribute has by its role
-abbrev pub value_of : Role → Form RawValue
+abbrev pub value_of : AttributeKind → Form RawValue
 value_of Points = whole raw.Triples (list_of triples)
 value_of Numbers = whole raw.Numbers (list_of numbers)
 value_of Colors = whole raw.Triples (list_of triples)
@@ -75,5 +75,5 @@ value_of Transform = whole raw.Matrix rows
 value_of ByteColor = single raw.Triples (triple Any)
 
 -- the value of a used attribute, which is not `None`
-unfoldable pub used_value : Role → Form RawValue
+unfoldable pub used_value : AttributeKind → Form RawValue
 used_value role ts = if is_word (codes "None") ts then Err (fault_at ts LeftOut) else value_of role ts

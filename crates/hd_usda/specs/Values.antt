@@ -1,8 +1,8 @@
 -- Values of which nothing is kept.
 use Rattle.std.specs.Prelude.{ℕ, zero, suc, ◌||◌, Ok, Err, if◌then◌else◌}
-use Rattle.hd_usda.specs.declared.lexer.Kind.TheVariants.{Word, Number, Text, Asset, PathText, OpenRound, CloseRound, OpenSquare, CloseSquare, OpenCurly, CloseCurly, Equals, Comma, Colon, Semicolon}
-use Rattle.hd_usda.specs.declared.fault.LayerWhy.TheVariants.{Syntax, Limit}
-use Rattle.hd_usda.specs.declared.limits.Which.TheVariants.{Nesting}
+use Rattle.hd_lexer.specs.declared.lexer.Kind.TheVariants.{Word, Number, Text, Asset, PathText, OpenRound, CloseRound, OpenSquare, CloseSquare, OpenCurly, CloseCurly, Equals, Comma, Colon, Semicolon}
+use Rattle.hd_layer.specs.declared.fault.LayerWhy.TheVariants.{Syntax, Limit}
+use Rattle.hd_layer.specs.declared.limits.Which.TheVariants.{Nesting}
 use Rattle.hd_usda.specs.Cursors.{◌>>=◌, Past, Form, is, rest, fault_at, take, past_one}
 use Rattle.hd_usda.specs.Loops.{past, chain}
 

@@ -1,23 +1,22 @@
 //! Attributes of a prim.
 
 ghost use Rattle.std.specs.Prelude.{◌≡◌, ◌≤◌, ◌<◌, IsAscii, OnOk, IfOk};
-ghost use Rattle.hd_usda.specs.declared.fault.LayerFault.TheVariants.{At};
-ghost use Rattle.hd_usda.specs.declared.lexer.Kind.TheVariants.{CloseCurly};
+ghost use Rattle.hd_layer.specs.declared.fault.LayerFault.TheVariants.{At};
+ghost use Rattle.hd_lexer.specs.declared.lexer.Kind.TheVariants.{CloseCurly};
 ghost use Rattle.hd_usda.specs.Cursors.{count, Gives};
 ghost use Rattle.hd_usda.specs.Loops.{past};
 ghost use Rattle.hd_usda.specs.Items.{point_tail, tail_at, with_tail, is_samples, misfits, is_misnamed, no_tail, new_attribute, sample, next_sample, samples, samples_value, plain_value, tail_value, own_role, behind_name, attribute};
 ghost use Rattle.hd_usda.specs.Bodies.{joined_view, lead_view, body_view};
 
 use crate::cursor::Cursor;
-use crate::fault::{LayerFault, LayerWhy};
-use crate::lexer::Kind;
-use crate::limits::Which;
 use crate::metadata::metadata;
-use crate::properties::{Role, allows, is_target_name, role_of};
 use crate::property::{Body, Joined, keep, new_name, own_type, pname, some_value};
 use crate::seen::Seen;
 use crate::used_value::used_value;
 use crate::value::value;
+use hd_layer::{LayerFault, LayerWhy, Which};
+use hd_lexer::Kind;
+use hd_tokens::{AttributeKind, allows, attribute_kind_of, is_target_name};
 use std::alloc::{AllocError, Global};
 
 /// What stands behind the name of an attribute.
@@ -89,7 +88,7 @@ fn is_samples(tail: Tail) -> bool
 }
 
 /// Is an attribute of this role left out, for its type or its tail?
-fn misfits(role: Option<Role>, lead: &Lead, tail: Tail) -> bool
+fn misfits(role: Option<AttributeKind>, lead: &Lead, tail: Tail) -> bool
     ensures { result ≡ misfits role (lead_view lead.now) tail }
 {
     match role {
@@ -102,7 +101,7 @@ fn misfits(role: Option<Role>, lead: &Lead, tail: Tail) -> bool
 pub fn is_misnamed(name: &[u8], lead: &Lead, tail: Tail) -> bool
     ensures { result ≡ is_misnamed name.now (lead_view lead.now) tail }
 {
-    is_target_name(name) || misfits(role_of(name), lead, tail)
+    is_target_name(name) || misfits(attribute_kind_of(name), lead, tail)
 }
 
 /// What is wrong with what stands behind a point in place of a tail.
@@ -203,7 +202,7 @@ fn samples_value(cursor: &mut Cursor) -> Result<(), LayerFault>
 fn plain_value(
     alloc: Global,
     cursor: &mut Cursor,
-    role: Option<Role>,
+    role: Option<AttributeKind>,
     name: &[u8],
     body: &mut Body,
 ) -> Result<(), LayerFault>
@@ -228,7 +227,7 @@ fn tail_value(
     alloc: Global,
     cursor: &mut Cursor,
     tail: Tail,
-    role: Option<Role>,
+    role: Option<AttributeKind>,
     name: &[u8],
     body: &mut Body,
 ) -> Result<(), LayerFault>
@@ -244,10 +243,10 @@ fn tail_value(
     }
 }
 
-fn own_role(used: bool, name: &[u8]) -> Option<Role>
+fn own_role(used: bool, name: &[u8]) -> Option<AttributeKind>
     ensures { result ≡ own_role used name.now }
 {
-    if used { role_of(name) } else { None }
+    if used { attribute_kind_of(name) } else { None }
 }
 
 /// Reads what stands behind the name of an attribute.

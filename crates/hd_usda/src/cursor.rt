@@ -2,13 +2,13 @@
 
 ghost use Rattle.std.specs.Prelude.{◌≡◌, ◌≤◌, ◌<◌, true, false, IsAscii, OnOk, if◌then◌else◌};
 ghost use Rattle.std.specs.Bool.{OnTrue};
-ghost use Rattle.hd_usda.specs.declared.fault.LayerFault.TheVariants.{At};
-ghost use Rattle.hd_usda.specs.declared.lexer.Kind.TheVariants.{End, Word};
-ghost use Rattle.hd_usda.specs.Lexing.{tokens_from};
+ghost use Rattle.hd_layer.specs.declared.fault.LayerFault.TheVariants.{At};
+ghost use Rattle.hd_lexer.specs.declared.lexer.Kind.TheVariants.{End, Word};
+ghost use Rattle.hd_lexer.specs.Lexing.{tokens_from};
 ghost use Rattle.hd_usda.specs.Cursors.{kind, text, line_of, rest, count, is, is_word, same_kind, take, past_one, Gives};
 
-use crate::fault::{LayerFault, LayerWhy};
-use crate::lexer::{Kind, Piece, passed, piece_at, without_blanks};
+use hd_layer::{LayerFault, LayerWhy};
+use hd_lexer::{Kind, Piece, passed, piece_at, without_blanks};
 use std::marker::Model;
 
 /// A text that is read once, from left to right: the tokens that are left of it.
@@ -21,8 +21,8 @@ pub struct Cursor<'a> {
 }
 
 impl<'a> Model for Cursor<'a> {
-    ghost use Rattle.hd_usda.specs.Lexing.{Tokens, tokens_from};
-    ghost use Rattle.hd_usda.specs.Scanned.{IsFirst};
+    ghost use Rattle.hd_lexer.specs.Lexing.{Tokens, tokens_from};
+    ghost use Rattle.hd_lexer.specs.Scanned.{IsFirst};
 
     ghost Value = { Tokens };
 

@@ -1,16 +1,15 @@
 //! Lists in the values of used properties.
 
 ghost use Rattle.std.specs.Prelude.{◌≡◌, ◌<◌, false, OnOk};
-ghost use Rattle.hd_usda.specs.declared.lexer.Kind.TheVariants.{CloseSquare};
+ghost use Rattle.hd_lexer.specs.declared.lexer.Kind.TheVariants.{CloseSquare};
 ghost use Rattle.hd_usda.specs.Cursors.{count, Gives};
 ghost use Rattle.hd_usda.specs.Loops.{all};
 ghost use Rattle.hd_usda.specs.Elements.{one_more, next_element, list_of};
 
 use crate::cursor::Cursor;
-use crate::fault::{LayerFault, LayerWhy};
-use crate::lexer::Kind;
-use crate::limits::Which;
 use crate::number_form::need;
+use hd_layer::{LayerFault, LayerWhy, Which};
+use hd_lexer::Kind;
 use hd_num::List;
 use std::alloc::Global;
 
@@ -25,9 +24,9 @@ pub trait Element: Drop {
     fn is_in_attribute() -> bool
         ensures { result ≡ how.attribute };
 
-    /// The kind of its first token.
-    fn begins() -> Kind
-        ensures { result ≡ how.begins };
+    /// Does the next token count as its beginning?
+    fn begins(cursor: &Cursor) -> bool
+        ensures { result ≡ how.begins cursor.now };
 
     /// What is wrong with its first token beyond the limit of elements.
     fn beyond(text: &[u8]) -> LayerWhy
@@ -49,7 +48,7 @@ fn one_more<T: Element>(
     ensures gives { Gives (λ _. (found.new.items, cursor.new)) result (one_more T.how found.old.items cursor.old) }
     ensures fewer { OnOk result (count cursor.new < count cursor.old) }
 {
-    if cursor.is(T::begins()) && found.len() as u64 >= Which::Elements.number() {
+    if T::begins(cursor) && found.len() as u64 >= Which::Elements.number() {
         return Err(cursor.fault(T::beyond(cursor.text())));
     }
     found.push(T::read(alloc, cursor, false)?)?;

@@ -2,16 +2,16 @@
 
 ghost use Rattle.std.specs.Prelude.{◌≡◌, ◌<◌, ◌≤◌, ◌&&◌, codes, OnOk};
 ghost use Rattle.std.specs.Str.{bytes_eq};
-ghost use Rattle.hd_usda.specs.declared.lexer.Kind.TheVariants.{CloseRound};
+ghost use Rattle.hd_lexer.specs.declared.lexer.Kind.TheVariants.{CloseRound};
 ghost use Rattle.hd_usda.specs.Cursors.{count, Gives};
 ghost use Rattle.hd_usda.specs.Loops.{past};
-ghost use Rattle.hd_usda.specs.Metadata.{is_any, list_ops, left_out_keys, is_off, behind_key, keyed, entry, metadata};
+ghost use Rattle.hd_usda.specs.Metadata.{list_ops, left_out_keys, is_off, behind_key, keyed, entry, metadata};
+ghost use Rattle.hd_tokens.specs.Names.{is_any};
 
 use crate::cursor::Cursor;
-use crate::fault::{LayerFault, LayerWhy};
-use crate::lexer::Kind;
-use crate::limits::Which;
 use crate::value::value;
+use hd_layer::{LayerFault, LayerWhy, Which};
+use hd_lexer::Kind;
 
 /// May the word stand before a key or a property?
 pub fn is_list_op(word: &[u8]) -> bool

@@ -3,17 +3,14 @@
 ghost use Rattle.std.specs.List.{list_all};
 ghost use Rattle.hd_num.specs.Matrices.{is_within};
 ghost use Rattle.std.specs.Prelude.{◌≡◌, ◌≤◌, ◌<◌, ◌^◌, unsigned_abs, OnOk, IfOk, true, false};
-ghost use Rattle.hd_usda.specs.declared.lexer.Kind.TheVariants.{End};
+ghost use Rattle.hd_lexer.specs.declared.lexer.Kind.TheVariants.{End};
 ghost use Rattle.hd_usda.specs.Cursors.{count, same_kind, Gives};
-ghost use Rattle.hd_usda.specs.DecimalViews.{decimal_view};
-ghost use Rattle.hd_usda.specs.Numbers.{is_endless, departs, need, meets, known, number, triple, row};
+ghost use Rattle.hd_lexer.specs.DecimalViews.{decimal_view};
+ghost use Rattle.hd_usda.specs.Numbers.{is_endless, is_non_finite, departs, need, meets, known, number, triple, row};
 
 use crate::cursor::Cursor;
-use crate::decimal::{Decimal, amount, is_fractional, parts_of};
-use crate::exactly::{is_nought, is_one, is_turn};
-use crate::fault::{LayerFault, LayerWhy};
-use crate::lexer::Kind;
-use crate::limits::Which;
+use hd_layer::{LayerFault, LayerWhy, Which};
+use hd_lexer::{Decimal, Kind, amount, is_fractional, is_nought, is_one, is_turn, parts_of};
 use hd_num::Vec3;
 
 /// What is demanded of a number in its place.
@@ -32,12 +29,19 @@ fn is_endless(text: &[u8]) -> bool
     text == b"inf".as_slice() || text == b"-inf".as_slice() || text == b"nan".as_slice()
 }
 
+/// Is the next token a number that is not finite?
+pub fn is_non_finite(cursor: &Cursor) -> bool
+    ensures { result ≡ is_non_finite cursor.now }
+{
+    cursor.is(Kind::Number) && is_endless(cursor.text())
+}
+
 /// What is wrong with a token that departs from a value.
 #[tactic(auto, unfolding(crate::specs::Numbers::departs))]
 fn departs(attribute: bool, cursor: &Cursor) -> LayerWhy
     ensures { result ≡ departs attribute cursor.now }
 {
-    if attribute && cursor.is(Kind::Number) && is_endless(cursor.text()) {
+    if attribute && is_non_finite(cursor) {
         LayerWhy::LeftOut
     } else {
         LayerWhy::Syntax

@@ -1,13 +1,13 @@
 //! Prims, their properties, and prims below them.
 
 ghost use Rattle.std.specs.Prelude.{◌≡◌, ◌≤◌, ◌<◌, ◌+◌, ◌∷◌, ◌++◌, [], length, IsAscii, OnOk, IfOk, IfErr};
-ghost use Rattle.hd_usda.specs.declared.fault.LayerFault.TheVariants.{NoMemory};
-ghost use Rattle.hd_usda.specs.declared.lexer.Kind.TheVariants.{CloseCurly, End};
-ghost use Rattle.hd_usda.specs.declared.limits.Which.TheVariants.{Depth};
+ghost use Rattle.hd_layer.specs.declared.fault.LayerFault.TheVariants.{NoMemory};
+ghost use Rattle.hd_lexer.specs.declared.lexer.Kind.TheVariants.{CloseCurly, End};
+ghost use Rattle.hd_layer.specs.declared.limits.Which.TheVariants.{Depth};
 ghost use Rattle.std.specs.FinSet.{empty};
 ghost use Rattle.hd_path.specs.Names.{IsName};
 ghost use Rattle.hd_usda.specs.Cursors.{count, Gives};
-ghost use Rattle.hd_usda.specs.Limits.{limit_of};
+ghost use Rattle.hd_layer.specs.Limits.{limit_of};
 ghost use Rattle.hd_usda.specs.Loops.{all};
 ghost use Rattle.hd_usda.specs.Prims.{empty_body, is_prim, prim_type, is_name, next_count, prim_name, head, with_prim, property_item, item, body, prim, root_item, layer_of, layer};
 ghost use Rattle.hd_usda.specs.declared.prims.Found.{Found};
@@ -15,17 +15,16 @@ ghost use Rattle.hd_usda.specs.Bodies.{body_view};
 ghost use Rattle.hd_usda.specs.PrimViews.{found_view, inside_view, named_view, head_view};
 
 use crate::cursor::Cursor;
-use crate::fault::{LayerFault, LayerWhy};
-use crate::lexer::Kind;
-use crate::limits::Which;
 use crate::metadata::metadata;
 use crate::property::{Body, new_name, property};
 use crate::seen::Seen;
-use crate::spec::{LayerSpec, PrimSpec, Property};
 use crate::text::{as_text, as_token, no_memory};
-use crate::words::{is_identifier, is_long};
+use crate::words::is_long;
+use hd_layer::{LayerFault, LayerSpec, LayerWhy, PrimSpec, Property, Which};
+use hd_lexer::Kind;
 use hd_num::List;
 use hd_path::Path;
+use hd_tokens::is_identifier;
 use std::alloc::{AllocError, Global};
 use std::collections::BTreeMap;
 

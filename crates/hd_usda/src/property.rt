@@ -1,26 +1,24 @@
 //! The properties of a prim.
 
 ghost use Rattle.std.specs.Prelude.{◌≡◌, ◌≤◌, ◌<◌, IsAscii, OnOk, IfOk, IfErr};
-ghost use Rattle.hd_usda.specs.declared.fault.LayerFault.TheVariants.{NoMemory};
-ghost use Rattle.hd_usda.specs.declared.lexer.Kind.TheVariants.{Colon};
+ghost use Rattle.hd_layer.specs.declared.fault.LayerFault.TheVariants.{NoMemory};
+ghost use Rattle.hd_lexer.specs.declared.lexer.Kind.TheVariants.{Colon};
 ghost use Rattle.hd_usda.specs.Cursors.{count, Gives};
 ghost use Rattle.hd_usda.specs.Loops.{chain};
-ghost use Rattle.hd_usda.specs.Metadata.{is_any};
+ghost use Rattle.hd_tokens.specs.Names.{is_any};
 ghost use Rattle.hd_usda.specs.Items.{reserved, list_op, past_modifiers, own_type, next_word, pname, new_name, some_value, with_value, relation_value, is_misnamed_relation, relation, relation_or_attribute, property};
 ghost use Rattle.hd_usda.specs.Bodies.{joined_view, type_view, body_view};
 
 use crate::attribute::attribute;
 use crate::cursor::Cursor;
-use crate::fault::{LayerFault, LayerWhy};
-use crate::lexer::Kind;
-use crate::limits::Which;
 use crate::metadata::{is_list_op, metadata};
-use crate::properties::{is_target_name, role_of};
 use crate::seen::Seen;
-use crate::spec::{Property, RawValue};
 use crate::targets::targets;
 use crate::text::as_token;
 use crate::value::value;
+use hd_layer::{LayerFault, LayerWhy, Property, RawValue, Which};
+use hd_lexer::Kind;
+use hd_tokens::{attribute_kind_of, is_target_name};
 use std::alloc::Global;
 
 /// A name of words that colons join, and the line of the last.
@@ -221,7 +219,7 @@ fn relation_value(
 pub fn is_misnamed_relation(listed: bool, name: &[u8]) -> bool
     ensures { result ≡ is_misnamed_relation listed name.now }
 {
-    role_of(name).is_some() || (listed && is_target_name(name))
+    attribute_kind_of(name).is_some() || (listed && is_target_name(name))
 }
 
 /// Reads a relationship behind its `rel`.

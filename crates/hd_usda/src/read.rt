@@ -3,13 +3,12 @@
 ghost use Rattle.std.specs.Prelude.{◌≡◌, Ok, IfOk, IfErr, IsTrue};
 ghost use Rattle.hd_usda.specs.Cursors.{Gives, Fails};
 ghost use Rattle.hd_usda.specs.Layers.{valid_text, ends_header, behind_header, reads};
-ghost use Rattle.hd_usda.specs.WellFormed.{is_layer, has_kinds};
+ghost use Rattle.hd_layer.specs.WellFormed.{is_layer, has_kinds};
 
 use crate::cursor::Cursor;
-use crate::fault::{LayerFault, LayerWhy};
-use crate::lexer::{is_space, line_over};
 use crate::prims::layer;
-use crate::spec::LayerSpec;
+use hd_layer::{LayerFault, LayerSpec, LayerWhy};
+use hd_lexer::{is_space, line_over};
 use std::alloc::Global;
 
 /// Are the bytes UTF-8?

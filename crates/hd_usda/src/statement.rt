@@ -1,25 +1,23 @@
 //! One property with its value, as the text of a script has it.
 
 ghost use Rattle.std.specs.Prelude.{◌≡◌, ◌<◌, Ok, IsAscii, IsTrue, IfOk, IfErr, IfSome, OnOk};
-ghost use Rattle.hd_usda.specs.declared.fault.LayerFault.TheVariants.{NoMemory};
-ghost use Rattle.hd_usda.specs.Lexing.{Tokens};
+ghost use Rattle.hd_layer.specs.declared.fault.LayerFault.TheVariants.{NoMemory};
+ghost use Rattle.hd_lexer.specs.Lexing.{Tokens};
 ghost use Rattle.hd_usda.specs.Cursors.{count, Gives, Fails};
 ghost use Rattle.hd_usda.specs.Statements.{equals, attribute_value, relation_value, admitted, named, relation, attribute, relation_or_attribute, ends, statement, reads_property};
-ghost use Rattle.hd_usda.specs.WellFormed.{is_property};
+ghost use Rattle.hd_layer.specs.WellFormed.{is_property};
 
 use crate::attribute::{Lead, Tail, is_misnamed};
 use crate::cursor::Cursor;
-use crate::fault::{LayerFault, LayerWhy};
-use crate::lexer::Kind;
-use crate::limits::Which;
 use crate::metadata::metadata;
-use crate::properties::{Role, is_target_name, role_of};
 use crate::property::{is_misnamed_relation, list_op, own_type, pass_modifiers, pname};
-use crate::spec::{Property, RawValue};
 use crate::targets::targets;
 use crate::text::as_token;
 use crate::used_value::used_value;
 use crate::value::value;
+use hd_layer::{LayerFault, LayerWhy, Property, RawValue, Which};
+use hd_lexer::Kind;
+use hd_tokens::{AttributeKind, attribute_kind_of, is_target_name};
 use std::alloc::Global;
 
 /// Passes an equals sign.
@@ -42,7 +40,7 @@ fn equals(cursor: &mut Cursor) -> Result<(), LayerFault>
 fn attribute_value(
     alloc: Global,
     cursor: &mut Cursor,
-    role: Option<Role>,
+    role: Option<AttributeKind>,
 ) -> Result<Option<RawValue>, LayerFault>
     ensures { Gives (λ value. (value, cursor.new)) result (attribute_value role cursor.old) }
 {
@@ -142,7 +140,7 @@ fn attribute(
     };
     admit(is_misnamed(&joined.name, &lead, Tail::Plain), joined.line)?;
     equals(cursor)?;
-    let value = attribute_value(alloc, cursor, role_of(&joined.name))?;
+    let value = attribute_value(alloc, cursor, attribute_kind_of(&joined.name))?;
     named(alloc, &joined.name, value)
 }
 

@@ -3,21 +3,21 @@
 ghost use Rattle.std.specs.Prelude.{◌≡◌, ◌≤◌, ◌<◌, true, false, nat_lt, length, count_by, IfOk, IfErr, OnOk};
 ghost use Rattle.std.specs.List.{prefix_len};
 ghost use Rattle.hd_path.specs.Parsing.{is_slash};
-ghost use Rattle.hd_usda.specs.declared.fault.LayerFault.TheVariants.{NoMemory};
-ghost use Rattle.hd_usda.specs.declared.limits.Which.TheVariants.{Depth};
+ghost use Rattle.hd_layer.specs.declared.fault.LayerFault.TheVariants.{NoMemory};
+ghost use Rattle.hd_layer.specs.declared.limits.Which.TheVariants.{Depth};
 ghost use Rattle.hd_usda.specs.Cursors.{count, Gives};
-ghost use Rattle.hd_usda.specs.Limits.{limit_of};
+ghost use Rattle.hd_layer.specs.Limits.{limit_of};
 ghost use Rattle.hd_usda.specs.Targets.{no_slash, are_identifiers, is_prim_path, has_long, names_of, path_in, beyond_list, target, one_target, in_list, targets};
 
 use crate::cursor::Cursor;
 use crate::elements::{Element, list_of};
-use crate::fault::{LayerFault, LayerWhy};
-use crate::lexer::Kind;
-use crate::limits::Which;
 use crate::text::{as_text, no_memory};
-use crate::words::{is_identifier, is_long};
+use crate::words::is_long;
+use hd_layer::{LayerFault, LayerWhy, Which};
+use hd_lexer::Kind;
 use hd_num::List;
 use hd_path::Path;
+use hd_tokens::is_identifier;
 use std::alloc::Global;
 
 /// How many bytes stand before the next slash.
@@ -148,8 +148,8 @@ impl Element for Path {
         false
     }
 
-    fn begins() -> Kind {
-        Kind::PathText
+    fn begins(cursor: &Cursor) -> bool {
+        cursor.is(Kind::PathText)
     }
 
     fn beyond(text: &[u8]) -> LayerWhy {

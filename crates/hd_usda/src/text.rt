@@ -2,9 +2,9 @@
 
 ghost use Rattle.std.specs.Prelude.{◌≡◌, IsAscii, IfOk, IfErr};
 ghost use Rattle.hd_path.specs.declared.fault.PathFault.TheVariants as path_faults;
-ghost use Rattle.hd_usda.specs.declared.fault.LayerFault.TheVariants.{NoMemory};
+ghost use Rattle.hd_layer.specs.declared.fault.LayerFault.TheVariants.{NoMemory};
 
-use crate::fault::LayerFault;
+use hd_layer::LayerFault;
 use hd_path::{PathFault, Token};
 use std::alloc::Global;
 

@@ -3,22 +3,20 @@
 ghost use Rattle.std.specs.Prelude.{◌≡◌, ◌<◌, ◌∷◌, [], OnOk, IfOk, true};
 ghost use Rattle.hd_num.specs.Matrices.{in_range};
 ghost use Rattle.hd_usda.specs.Cursors.{count, Gives};
-ghost use Rattle.hd_usda.specs.Properties.{visibilities, purposes};
-ghost use Rattle.hd_usda.specs.declared.spec.RawValue.TheVariants as raw;
+ghost use Rattle.hd_tokens.specs.Properties.{visibilities, purposes};
+ghost use Rattle.hd_layer.specs.declared.spec.RawValue.TheVariants as raw;
 ghost use Rattle.hd_usda.specs.Numbers.{number, triple};
 ghost use Rattle.hd_usda.specs.UsedValues.{numbers, triples, op_entry, op_entries, one_of, rows, single, value_of, used_value};
 
 use crate::cursor::Cursor;
 use crate::elements::{Element, list_of};
-use crate::fault::{LayerFault, LayerWhy};
-use crate::lexer::Kind;
-use crate::limits::Which;
-use crate::number_form::{Demand, need, number, row, triple};
-use crate::properties::{Role, is_op_entry, is_purpose, is_visibility};
-use crate::spec::RawValue;
+use crate::number_form::{Demand, is_non_finite, need, number, row, triple};
 use crate::text::as_token;
+use hd_layer::{LayerFault, LayerWhy, RawValue, Which};
+use hd_lexer::Kind;
 use hd_num::{List, Matrix, Vec3};
 use hd_path::Token;
+use hd_tokens::{AttributeKind, is_op_entry, is_purpose, is_visibility};
 use std::alloc::{AllocError, Global};
 
 impl Element for i64 {
@@ -28,8 +26,8 @@ impl Element for i64 {
         true
     }
 
-    fn begins() -> Kind {
-        Kind::Number
+    fn begins(cursor: &Cursor) -> bool {
+        cursor.is(Kind::Number)
     }
 
     fn beyond(_text: &[u8]) -> LayerWhy {
@@ -48,8 +46,8 @@ impl Element for Vec3 {
         true
     }
 
-    fn begins() -> Kind {
-        Kind::OpenRound
+    fn begins(cursor: &Cursor) -> bool {
+        cursor.is(Kind::OpenRound) || is_non_finite(cursor)
     }
 
     fn beyond(_text: &[u8]) -> LayerWhy {
@@ -83,8 +81,8 @@ impl Element for Token {
         true
     }
 
-    fn begins() -> Kind {
-        Kind::Text
+    fn begins(cursor: &Cursor) -> bool {
+        cursor.is(Kind::Text)
     }
 
     fn beyond(_text: &[u8]) -> LayerWhy {
@@ -185,34 +183,38 @@ fn one_angle(alloc: Global, cursor: &mut Cursor) -> Result<RawValue, LayerFault>
 }
 
 /// Reads the value that an attribute has by its role.
-fn value_of(alloc: Global, cursor: &mut Cursor, role: Role) -> Result<RawValue, LayerFault>
+fn value_of(alloc: Global, cursor: &mut Cursor, role: AttributeKind) -> Result<RawValue, LayerFault>
     ensures gives { Gives (λ value. (value, cursor.new)) result (value_of role cursor.old) }
     ensures fewer { OnOk result (count cursor.new < count cursor.old) }
 {
     match role {
-        Role::Points | Role::Colors | Role::ByteColors => {
+        AttributeKind::Points | AttributeKind::Colors | AttributeKind::ByteColors => {
             Ok(RawValue::Triples(list_of(alloc, cursor)?))
         }
-        Role::Numbers => Ok(RawValue::Numbers(list_of(alloc, cursor)?)),
-        Role::OpOrder => Ok(RawValue::Words(list_of(alloc, cursor)?)),
-        Role::Visibility => {
+        AttributeKind::Numbers => Ok(RawValue::Numbers(list_of(alloc, cursor)?)),
+        AttributeKind::OpOrder => Ok(RawValue::Words(list_of(alloc, cursor)?)),
+        AttributeKind::Visibility => {
             let word = visibility(alloc, cursor)?;
             Ok(RawValue::Words(one(alloc, word)?))
         }
-        Role::Purpose => {
+        AttributeKind::Purpose => {
             let word = purpose(alloc, cursor)?;
             Ok(RawValue::Words(one(alloc, word)?))
         }
-        Role::Vector | Role::ByteColor => one_triple(alloc, cursor, Demand::Any),
-        Role::Angle => one_angle(alloc, cursor),
-        Role::Angles => one_triple(alloc, cursor, Demand::Turn),
-        Role::Transform => Ok(RawValue::Matrix(matrix(cursor)?)),
+        AttributeKind::Vector | AttributeKind::ByteColor => one_triple(alloc, cursor, Demand::Any),
+        AttributeKind::Angle => one_angle(alloc, cursor),
+        AttributeKind::Angles => one_triple(alloc, cursor, Demand::Turn),
+        AttributeKind::Transform => Ok(RawValue::Matrix(matrix(cursor)?)),
     }
 }
 
 /// Reads the value of a used attribute.
 #[tactic(auto, unfolding(crate::specs::UsedValues::used_value))]
-pub fn used_value(alloc: Global, cursor: &mut Cursor, role: Role) -> Result<RawValue, LayerFault>
+pub fn used_value(
+    alloc: Global,
+    cursor: &mut Cursor,
+    role: AttributeKind,
+) -> Result<RawValue, LayerFault>
     ensures gives { Gives (λ value. (value, cursor.new)) result (used_value role cursor.old) }
     ensures fewer { OnOk result (count cursor.new < count cursor.old) }
 {

@@ -1,15 +1,14 @@
 //! Values that are read past.
 
 ghost use Rattle.std.specs.Prelude.{◌<◌, ◌≤◌, OnOk};
-ghost use Rattle.hd_usda.specs.declared.lexer.Kind.TheVariants.{Colon, CloseRound, CloseSquare};
+ghost use Rattle.hd_lexer.specs.declared.lexer.Kind.TheVariants.{Colon, CloseRound, CloseSquare};
 ghost use Rattle.hd_usda.specs.Cursors.{count, Gives};
 ghost use Rattle.hd_usda.specs.Loops.{past, chain};
 ghost use Rattle.hd_usda.specs.Values.{type_name, next_word, more_words, key, next_of_tuple, next_of_list, entry_of_dict, tuple, list, dict, plain_value, value};
 
 use crate::cursor::Cursor;
-use crate::fault::{LayerFault, LayerWhy};
-use crate::lexer::Kind;
-use crate::limits::Which;
+use hd_layer::{LayerFault, LayerWhy, Which};
+use hd_lexer::Kind;
 
 /// Passes a type.
 #[tactic(auto, unfolding(crate::specs::Values::type_name))]

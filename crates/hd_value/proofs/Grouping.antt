@@ -2,13 +2,14 @@
 use Rattle.std.proofs.Common.{◌≡◌, ℕ, Bool, true, false, ◌&&◌, ◌||◌, ◌==◌, List, [], ◌∷◌, codes, refl, ap, sym, ◌∙◌}
 use Rattle.std.specs.List.{count_by, list_all}
 use Rattle.std.proofs.lemmas.Bool.Decides.{Decides-eqb}
+use Rattle.hd_tokens.specs.Locators.{op_at}
 use Rattle.hd_value.specs.declared.value.Value.{Value}
 use Rattle.hd_value.specs.declared.value.Value.TheVariants.{Token, Tokens, Ints, Vecs, Color, Colors, Paths, Op, Matrix, Out, Flag}
 use Rattle.hd_value.specs.Groups.{locator_of_group, locators_before_flattening}
 use Rattle.hd_value.specs.Laws.{groups, FlattenedHaveOneGroup, InstancedHaveOneGroup}
 use Rattle.hd_value.specs.Locators.{is_same, is_prefix, intersects}
 use Rattle.hd_value.specs.LocatorSets.{touches}
-use Rattle.hd_value.specs.Shapes.{Row, passed_rows, flattened_away_rows, instanced_by_row, reset_row, flattened_rows, allows, two, is_named_op}
+use Rattle.hd_value.specs.Schema.{Row, passed_rows, flattened_away_rows, instanced_by_row, reset_row, flattened_rows, allows, is_named_op}
 use Rattle.hd_value.proofs.Prefixes.{and_true, same_text}
 
 not_true : {P : Type 0} → false ≡ true → P
@@ -44,11 +45,11 @@ at_rows test (row ∷ rows) at v all e =
     (λ later. at_rows test rows at v each.1 later)
 
 -- what holds of the locator of each op holds where an op may stand
-at_ops : (test : List (List ℕ) → Bool) (at : List (List ℕ)) (v : Value) → ((name : List ℕ) → test (codes "xform" ∷ codes "ops" ∷ name ∷ []) ≡ true) → is_named_op at v ≡ true → test at ≡ true
+at_ops : (test : List (List ℕ) → Bool) (at : List (List ℕ)) (v : Value) → ((name : List ℕ) → test (op_at name) ≡ true) → is_named_op at v ≡ true → test at ≡ true
 at_ops test (a ∷ b ∷ name ∷ []) (Op op) all e =
-    let both = and_true (is_prefix (two (codes "xform") (codes "ops")) (a ∷ b ∷ [])) _ e in
-    let first = and_true (is_same (codes "xform") a) (is_same (codes "ops") b && true) both.0 in
-    let second = and_true (is_same (codes "ops") b) true first.1 in
+    let both = and_true (is_prefix (op_at name) (a ∷ b ∷ name ∷ [])) _ e in
+    let first = and_true (is_same (codes "xform") a) (is_prefix (codes "ops" ∷ name ∷ []) (b ∷ name ∷ [])) both.0 in
+    let second = and_true (is_same (codes "ops") b) (is_prefix (name ∷ []) (name ∷ [])) first.1 in
     ap (λ (w : List ℕ). test (w ∷ b ∷ name ∷ [])) (sym (same_text (codes "xform") a first.0))
     ∙ ap (λ (w : List ℕ). test (codes "xform" ∷ w ∷ name ∷ [])) (sym (same_text (codes "ops") b second.0))
     ∙ all name

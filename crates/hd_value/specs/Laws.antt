@@ -6,7 +6,7 @@ use Rattle.hd_value.specs.declared.value.Value.{Value}
 use Rattle.hd_value.specs.Groups.{locator_of_group, locators_before_flattening}
 use Rattle.hd_value.specs.Locators.{intersects}
 use Rattle.hd_value.specs.LocatorSets.{touches, inserted}
-use Rattle.hd_value.specs.Shapes.{is_instanced, is_flattened}
+use Rattle.hd_value.specs.Schema.{is_instanced, is_flattened}
 
 -- after the insertion a set intersects what it intersected before, and what the locator intersects
 abbrev pub InsertedIntersects : Type 0

@@ -8,4 +8,4 @@ pub mod Depths
 pub mod Falls
 pub mod Laws
 pub mod Groups
-pub mod Shapes
+pub mod Schema

@@ -3,13 +3,14 @@
 ghost use Rattle.std.specs.Prelude.{◌≡◌, ◌≢◌, ◌↔◌, IsTrue, ℕ, List, [], ◌∷◌, ◌++◌, map, IfOk, IfErr, OnOk, OnErr};
 ghost use Rattle.std.specs.FinMap.{empty, get, from_entries};
 ghost use Rattle.std.specs.Option.{option_copied};
+ghost use Rattle.hd_tokens.specs.Tables.{texts};
 ghost use Rattle.hd_value.specs.Containers.{found};
 ghost use Rattle.hd_value.specs.Locators.{byte_order};
 ghost use Rattle.hd_value.specs.Levels.{values_of, source_at, placed, inside, source_with, IsPlace, IsGap, AreEntries};
 ghost use Rattle.hd_value.specs.Overlays.{merged_source, overlaid_on, IsLaidOver};
 ghost use Rattle.hd_value.specs.Maps.{Map, set_at, overlaid_at, IsFree, IsPrefixFree};
 
-use crate::element::Element;
+use crate::element::{Element, LocatorText};
 use crate::locator::Locator;
 use crate::value::Value;
 use std::alloc::{AllocError, Global};
@@ -17,7 +18,7 @@ use std::cmp::Ordering;
 use std::marker::Model;
 use std::sync::Arc;
 
-/// What stands at a locator: a value, or the values below it.
+/// What is at a locator: a value, or the values below it.
 #[cycle(container)]
 #[derive(Drop)]
 pub enum Source {
@@ -25,7 +26,7 @@ pub enum Source {
     Leaf(Value),
 }
 
-/// A token of a level, and what stands there.
+/// A token of a level, and what is there.
 #[cycle(container)]
 #[derive(Drop)]
 struct Entry {
@@ -33,7 +34,7 @@ struct Entry {
     source: Source,
 }
 
-/// Values by locator. Where a value stands at a locator, none stands below it. A copy shares what its source holds.
+/// Values by locator. Where a value is at a locator, none is below it. A copy shares what its source holds.
 #[cycle(container)]
 #[derive(Drop)]
 pub struct Container {
@@ -70,21 +71,28 @@ impl Container {
         Container { level: None }
     }
 
-    /// What stands at a locator: a value, the values below it, or nothing. The empty locator has nothing.
+    /// What is at a locator: a value, the values below it, or nothing. The empty locator has nothing.
     pub fn get(&self, at: &Locator) -> Option<&Source>
         ensures { option_copied result ≡ found self.now at.now }
     {
         look(self, at.elements())
     }
 
-    /// Whether no value stands above the locator, so that one may be put there.
+    /// What is at the locator of these tokens. Asking takes no memory.
+    pub fn get_at(&self, tokens: &[&str]) -> Option<&Source>
+        ensures { option_copied result ≡ found self.now (texts tokens.now) }
+    {
+        look(self, tokens)
+    }
+
+    /// Whether no value is above the locator, so that one may be put there.
     pub fn is_free(&self, at: &Locator) -> bool
         ensures { IsTrue result ↔ IsFree self.now at.now }
     {
         is_free_behind(self, at.elements())
     }
 
-    /// Puts a value at a locator, in place of what stood at or below it. Refused it changes nothing.
+    /// Puts a value at a locator, in place of what was at or below it. Refused it changes nothing.
     pub fn set(&mut self, alloc: Global, at: &Locator, value: Value) -> Result<(), AllocError>
         requires named { at.now ≢ [] }
         requires free { IsFree self.old at.now }
@@ -93,6 +101,22 @@ impl Container {
     {
         let tokens = at.elements();
         put(self, alloc, &tokens[0], &tokens[1..], value)
+    }
+
+    /// Puts a value at the locator of these tokens of the program's own, which are not copied, in place of what was at or
+    /// below it. Refused it changes nothing.
+    pub fn set_at(
+        &mut self,
+        alloc: Global,
+        tokens: &'static [&'static str],
+        value: Value,
+    ) -> Result<(), AllocError>
+        requires named { tokens.now ≢ [] }
+        requires free { IsFree self.old (texts tokens.now) }
+        ensures ok { OnOk result (self.new ≡ set_at self.old (texts tokens.now) value) }
+        ensures err { OnErr result (self.new ≡ self.old) }
+    {
+        self.set(alloc, &Locator::fixed(alloc, tokens)?, value)
     }
 
     /// The values of all parts, of which the first is the strongest: a value is kept exactly where no earlier part has a
@@ -113,7 +137,7 @@ impl Container {
         Ok(whole)
     }
 
-    /// No value stands above another one, and none at the empty locator: a fact for proofs, which costs nothing.
+    /// No value is above another one, and none at the empty locator: a fact for proofs, which costs nothing.
     pub fn locators_are_prefix_free(&self)
         ensures rootless { get self.now [] ≡ None }
         ensures prefix_free { IsPrefixFree self.now }
@@ -167,8 +191,8 @@ impl Source {
     }
 }
 
-/// Where the entry with the token stands, or else where one would be put.
-fn place_of(entries: &[Entry], token: &Element) -> Result<usize, usize>
+/// Where the entry with the token is, or else where one would be put.
+fn place_of(entries: &[Entry], token: &str) -> Result<usize, usize>
     requires { AreEntries entries.now }
     ensures found { IfOk result (IsPlace token.now entries.now) }
     ensures missing { IfErr result (IsGap token.now entries.now) }
@@ -176,12 +200,12 @@ fn place_of(entries: &[Entry], token: &Element) -> Result<usize, usize>
     entries.binary_search_by(
         |entry: &Entry| -> Ordering
             ensures { result ≡ byte_order entry.now.token token.entry.now }
-        { entry.token.compare(token) },
+        { entry.token.text().cmp(token) },
     )
 }
 
 /// The source of the entry with this token.
-fn source_in<'a>(entries: &'a [Entry], token: &Element) -> Option<&'a Source>
+fn source_in<'a>(entries: &'a [Entry], token: &str) -> Option<&'a Source>
     requires { AreEntries entries.now }
     ensures { option_copied result ≡ source_at token.now entries.now }
 {
@@ -191,13 +215,13 @@ fn source_in<'a>(entries: &'a [Entry], token: &Element) -> Option<&'a Source>
     }
 }
 
-/// What stands in a container behind these tokens.
+/// What is at the locator of these tokens.
 #[tactic(auto, using(crate::proofs::Getting::found_level))]
-fn look<'a>(container: &'a Container, tokens: &[Element]) -> Option<&'a Source>
-    ensures { option_copied result ≡ found container.now tokens.now }
+fn look<'a, T: LocatorText>(container: &'a Container, tokens: &[T]) -> Option<&'a Source>
+    ensures { option_copied result ≡ found container.now (map T.bytes tokens.now) }
 {
     let (first, rest) = tokens.split_first()?;
-    let source = source_in(container.entries(), first)?;
+    let source = source_in(container.entries(), first.as_text())?;
     if rest.is_empty() {
         return Some(source);
     }
@@ -207,13 +231,13 @@ fn look<'a>(container: &'a Container, tokens: &[Element]) -> Option<&'a Source>
     }
 }
 
-/// Whether no value of the container stands above what these tokens name.
+/// Whether no value of the container is above what these tokens name.
 fn is_free_behind(container: &Container, tokens: &[Element]) -> bool
     ensures { IsTrue result ↔ IsFree container.now tokens.now }
 {
     match tokens.split_first() {
         None => true,
-        Some((first, rest)) => match source_in(container.entries(), first) {
+        Some((first, rest)) => match source_in(container.entries(), first.text()) {
             None => true,
             Some(Source::Leaf(_)) => rest.is_empty(),
             Some(Source::Inner(inner)) => is_free_behind(inner, rest),
@@ -221,8 +245,8 @@ fn is_free_behind(container: &Container, tokens: &[Element]) -> bool
     }
 }
 
-/// Puts a value behind these tokens, in place of what stood at or below it. A level that no other container holds is
-/// changed where it stands. Refused it changes nothing.
+/// Puts a value at the locator of these tokens, in place of what was at or below it. A level that no other container
+/// holds is changed where it is. Refused it changes nothing.
 #[cycle(put)]
 fn put(
     container: &mut Container,
@@ -258,7 +282,7 @@ fn put_in(
     ensures ok { OnOk result (entries.new.items ≡ placed first.now (source_with (source_at first.now entries.old.items) rest.now value) entries.old.items) }
     ensures err { OnErr result (entries.new.items ≡ entries.old.items) }
 {
-    match place_of(entries, first) {
+    match place_of(entries, first.text()) {
         Ok(i) => {
             let entry = &mut entries[i];
             put_at(&mut entry.source, alloc, rest, value)
@@ -293,7 +317,7 @@ fn put_at(
         }
         Some((first, more)) => match source {
             Source::Inner(inner) => put(inner, alloc, first, more, value),
-            // No caller comes here: no value stands above the place.
+            // No caller comes here: no value is above the locator.
             Source::Leaf(_) => {
                 *source = Source::Inner(container_with(alloc, first, more, value)?);
                 Ok(())
@@ -361,7 +385,7 @@ fn laid_over(strong: &Container, alloc: Global, weak: &Container) -> Result<Cont
     Container::of_entries(alloc, all)
 }
 
-/// The entries of both levels in one pass, the first over the second where a token stands in both.
+/// The entries of both levels in one pass, the first over the second where a token is in both.
 #[cycle(overlay)]
 fn merged(over: &[Entry], alloc: Global, under: &[Entry]) -> Result<Vec<Entry>, AllocError>
     requires over { AreEntries over.now }

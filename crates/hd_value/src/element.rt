@@ -10,27 +10,44 @@ use std::alloc::{AllocError, Global};
 use std::cmp::Ordering;
 use std::marker::Model;
 
-/// A token of a locator. The empty one takes no memory, which makes it the default.
+/// A text of a locator that is looked up.
+pub(crate) trait LocatorText {
+    ghost use Rattle.std.specs.Prelude.{List, ℕ};
+
+    ghost bytes: { Self → List ℕ };
+
+    fn as_text(&self) -> &str
+        ensures { result.now ≡ bytes self.now };
+}
+
+/// Where the text of a token is.
+#[derive(Drop)]
+enum Text {
+    /// In the program: the text takes no memory.
+    Fixed(&'static str),
+    Shared(Token),
+}
+
+/// A token of a locator.
 #[derive(Drop)]
 pub struct Element {
-    /// `None` for the empty text.
-    token: Option<Token>,
+    text: Text,
 }
 
 impl Model for Element {
     ghost use Rattle.std.specs.Prelude.{List, ℕ};
-    ghost use Rattle.hd_value.specs.Locators.{text_of};
+    ghost use Rattle.hd_value.specs.Locators.{bytes_of};
 
     ghost Value = { List ℕ };
 
-    ghost view = { λ element. text_of element.token };
+    ghost view = { λ element. bytes_of element.text };
 }
 
 impl Default for Element {
     fn default() -> Element
         ensures { result ≡ [] }
     {
-        Element { token: None }
+        Element::fixed("")
     }
 }
 
@@ -44,21 +61,46 @@ impl PartialEq for Element {
     }
 }
 
+impl LocatorText for Element {
+    ghost bytes = { λ element. element };
+
+    fn as_text(&self) -> &str {
+        self.text()
+    }
+}
+
+impl LocatorText for &str {
+    ghost bytes = { λ text. text.now };
+
+    fn as_text(&self) -> &str {
+        self
+    }
+}
+
 impl Element {
+    /// A token of the program's own, which takes no memory.
+    pub fn fixed(text: &'static str) -> Element
+        ensures { result ≡ text.now }
+    {
+        Element {
+            text: Text::Fixed(text),
+        }
+    }
+
     pub fn new(alloc: Global, text: &str) -> Result<Element, AllocError>
         ensures { IfOk result (λ element. element ≡ text.now) }
     {
         Ok(Element {
-            token: Some(Token::new(alloc, text)?),
+            text: Text::Shared(Token::new(alloc, text)?),
         })
     }
 
     pub fn text(&self) -> &str
         ensures { result.now ≡ self.now }
     {
-        match &self.token {
-            Some(token) => token.text(),
-            None => "",
+        match &self.text {
+            Text::Fixed(text) => text,
+            Text::Shared(token) => token.text(),
         }
     }
 
@@ -72,11 +114,11 @@ impl Element {
     pub fn copy(&self) -> Result<Element, AllocError>
         ensures { IfOk result (λ copied. copied ≡ self.now) }
     {
-        match &self.token {
-            Some(token) => Ok(Element {
-                token: Some(token.copy()?),
+        match &self.text {
+            Text::Fixed(text) => Ok(Element::fixed(text)),
+            Text::Shared(token) => Ok(Element {
+                text: Text::Shared(token.copy()?),
             }),
-            None => Ok(Element { token: None }),
         }
     }
 }

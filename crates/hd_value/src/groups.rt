@@ -1,12 +1,14 @@
 //! The groups of values that change together.
 
 ghost use Rattle.std.specs.Prelude.{◌≡◌, IfOk};
+ghost use Rattle.hd_tokens.specs.Tables.{texts};
 ghost use Rattle.hd_value.specs.Groups.{locator_of_group, locators_before_flattening};
 
 use crate::locator::Locator;
+use hd_tokens::locators;
 use std::alloc::{AllocError, Global};
 
-/// A group of values of a prim that change together. Each stands under the locator that is named beside it.
+/// A group of values of a prim that change together. Each is under the locator that is named beside it.
 #[derive(Clone, Copy, Debug, PartialEq, Eq)]
 pub enum Group {
     /// `primvars/points`
@@ -41,36 +43,43 @@ pub enum Group {
 }
 
 impl Group {
-    /// The locator under which the values of the group stand.
+    /// The locator under which the values of the group are.
     pub fn locator(self, alloc: Global) -> Result<Locator, AllocError>
         ensures { IfOk result (λ locator. locator ≡ locator_of_group self) }
     {
-        match self {
-            Group::Points => Locator::of(alloc, &["primvars", "points"]),
-            Group::Topology => Locator::of(alloc, &["mesh"]),
-            Group::Color => Locator::of(alloc, &["primvars", "color"]),
-            Group::Transform => Locator::of(alloc, &["xform"]),
-            Group::Visibility => Locator::of(alloc, &["visibility"]),
-            Group::Purpose => Locator::of(alloc, &["purpose"]),
-            Group::Binding => Locator::of(alloc, &["binding"]),
-            Group::Instancer => Locator::of(alloc, &["instancedBy"]),
-            Group::Instances => Locator::of(alloc, &["instancer"]),
-            Group::MaterialColor => Locator::of(alloc, &["material"]),
-        }
+        Locator::fixed(alloc, self.tokens())
     }
 
-    /// The locators under which the values of the group stand before flattening: a colour is authored in either of two
+    /// The locators under which the values of the group are before flattening: a color is authored in either of two
     /// forms.
     pub fn locators_before_flattening(self, alloc: Global) -> Result<Vec<Locator>, AllocError>
-        ensures { IfOk result (λ locators. locators.items ≡ locators_before_flattening self) }
+        ensures { IfOk result (λ authored. authored.items ≡ locators_before_flattening self) }
     {
-        let mut locators = Vec::with_capacity(alloc, 2)?;
+        let mut authored = Vec::with_capacity(alloc, 2)?;
         if self == Group::Color {
-            locators.push(Locator::of(alloc, &["primvars", "color8"])?)?;
-            locators.push(Locator::of(alloc, &["primvars", "displayColor"])?)?;
+            authored.push(Locator::fixed(alloc, locators::COLOR8)?)?;
+            authored.push(Locator::fixed(alloc, locators::DISPLAY_COLOR)?)?;
         } else {
-            locators.push(self.locator(alloc)?)?;
+            authored.push(self.locator(alloc)?)?;
         }
-        Ok(locators)
+        Ok(authored)
+    }
+
+    /// The tokens of the locator.
+    fn tokens(self) -> &'static [&'static str]
+        ensures { texts result.now ≡ locator_of_group self }
+    {
+        match self {
+            Group::Points => locators::POINTS,
+            Group::Topology => locators::MESH,
+            Group::Color => locators::COLOR,
+            Group::Transform => locators::XFORM,
+            Group::Visibility => locators::VISIBILITY,
+            Group::Purpose => locators::PURPOSE,
+            Group::Binding => locators::BINDING,
+            Group::Instancer => locators::INSTANCED_BY,
+            Group::Instances => locators::INSTANCER,
+            Group::MaterialColor => locators::MATERIAL,
+        }
     }
 }

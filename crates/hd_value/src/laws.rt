@@ -7,7 +7,7 @@ pub fn inserted_intersects()
     ensures { InsertedIntersects }
 {}
 
-/// Each value that may stand before flattening, and each one behind it, stands under the locators of exactly one group.
+/// Each value that may be there before flattening, and each one after it, is under the locators of exactly one group.
 pub fn values_have_one_group()
     ensures before { InstancedHaveOneGroup }
     ensures flattened { FlattenedHaveOneGroup }

@@ -16,6 +16,3 @@ pub use laws::{inserted_intersects, values_have_one_group};
 pub use locator::Locator;
 pub use locator_set::LocatorSet;
 pub use value::Value;
-
-#[cfg(test)]
-mod tests;

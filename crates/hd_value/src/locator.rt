@@ -1,6 +1,7 @@
 //! Places in a container.
 
-ghost use Rattle.std.specs.Prelude.{◌≡◌, ◌<◌, length, map, slice_index_or, [], IfOk};
+ghost use Rattle.std.specs.Prelude.{◌≡◌, ◌<◌, length, slice_index_or, [], IfOk};
+ghost use Rattle.hd_tokens.specs.Tables.{texts};
 ghost use Rattle.hd_value.specs.Locators.{is_prefix, intersects};
 
 use crate::element::Element;
@@ -28,11 +29,22 @@ impl Model for Locator {
 impl Locator {
     /// The locator of these tokens, from the outermost in.
     pub fn of(alloc: Global, tokens: &[&str]) -> Result<Locator, AllocError>
-        ensures { IfOk result (λ locator. locator ≡ map (λ token. token.now) tokens.now) }
+        ensures { IfOk result (λ locator. locator ≡ texts tokens.now) }
     {
         let mut kept = SmallVec::with_capacity(alloc, tokens.len())?;
         for token in tokens {
             kept.push(Element::new(alloc, token)?)?;
+        }
+        Ok(Locator { tokens: kept })
+    }
+
+    /// The locator of these tokens of the program's own, which are not copied: one of at most three takes no memory.
+    pub fn fixed(alloc: Global, tokens: &'static [&'static str]) -> Result<Locator, AllocError>
+        ensures { IfOk result (λ locator. locator ≡ texts tokens.now) }
+    {
+        let mut kept = SmallVec::with_capacity(alloc, tokens.len())?;
+        for token in tokens {
+            kept.push(Element::fixed(token))?;
         }
         Ok(Locator { tokens: kept })
     }

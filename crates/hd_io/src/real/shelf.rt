@@ -54,7 +54,7 @@ impl<F: Read> Reading<F> {
 pub struct FileShelf<R: Files> {
     rt: R,
     reading: Option<Reading<R::File>>,
-    pub(crate) failures: Failures,
+    failures: Failures,
 }
 
 impl<R: Files> Model for FileShelf<R> {

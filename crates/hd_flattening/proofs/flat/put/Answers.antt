@@ -1,11 +1,10 @@
-use Rattle.std.proofs.Common.{ap, ◌∙◌}
-use Rattle.hd_flattening.specs.Places.{flat_places, is_among}
-use Rattle.hd_flattening.proofs.Placing.{place_free, put_stands}
+use Rattle.hd_flattening.proofs.Placing.{locator_free, put_within}
+use Rattle.hd_tokens.specs.Tables.{texts}
 use Rattle.hd_flattening.proofs.flat.put.Goals as goal
 
-pub set-requires-clause-free : goal.set-requires-clause-free
-set-requires-clause-free c = place_free c.args.flat.now c.in_ok-of-in-Some.field-0 c.requires.stands (ap (is_among flat_places) c.in_ok-of-in-Some.ensures ∙ c.requires.place)
+pub set_at-requires-clause-free : goal.set_at-requires-clause-free
+set_at-requires-clause-free c = locator_free c.args.flat.now (texts c.args.tokens.now) c.requires.within c.requires.among
 
-pub returns-in_ok-of-in-Some-clause-stands : goal.returns-in_ok-of-in-Some-clause-stands
-returns-in_ok-of-in-Some-clause-stands c =
-    put_stands c.set-in-Some.result c.args.flat.now c.set-in-Some.new.self c.in_ok-of-in-Some.field-0 c.in-Some.value c.requires.stands (ap (is_among flat_places) c.in_ok-of-in-Some.ensures ∙ c.requires.place) c.set-in-Some.ensures.ok c.set-in-Some.ensures.err
+pub returns-in-Some-clause-within : goal.returns-in-Some-clause-within
+returns-in-Some-clause-within c =
+    put_within c.set_at.result c.args.flat.now c.set_at.new.self (texts c.args.tokens.now) c.in-Some.value c.requires.within c.requires.among c.set_at.ensures.ok c.set_at.ensures.err

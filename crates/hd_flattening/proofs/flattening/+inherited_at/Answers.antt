@@ -15,4 +15,4 @@ returns-clause-value g t c =
     let asked : c.in_ok-prim.prim ≡ prim_of (get scene parent) = c.in_ok-prim.ensures.value ∙ ap (λ (s : Scene). prim_of (get s parent)) c.inherited_at.ensures.same_scene in
     let deep : 2 ≤ length path = omega (arith, c.depth.ensures.names, c.if-depth-lt2.false) in
     let all : prim_values c.in_ok-prim.prim ∷ ancestors scene parent ≡ ancestors scene path = ancestors-parent scene path parent c.in_ok-prim.prim deep c.in_ok-parent.ensures asked in
-    IfOk-weaker c.below_prim.result _ _ (λ i f. ◌∙◌ {b = inherited_from (prim_values c.in_ok-prim.prim ∷ ancestors scene parent)} (f (ancestors scene parent) c.in_ok-above.ensures.value) (ap inherited_from all)) c.below_prim.ensures
+    IfOk-weaker c.for_children_of.result _ _ (λ i f. ◌∙◌ {b = inherited_from (prim_values c.in_ok-prim.prim ∷ ancestors scene parent)} (f (ancestors scene parent) c.in_ok-above.ensures.value) (ap inherited_from all)) c.for_children_of.ensures

@@ -6,7 +6,7 @@ use Rattle.hd_scene.specs.Scenes.{Scene, prim_of}
 use Rattle.hd_scene.specs.declared.prims.Primitive.{Primitive}
 use Rattle.hd_flattening.specs.Flat.{ancestors}
 use Rattle.hd_flattening.specs.Inheriting.{flat_primitive}
-use Rattle.hd_flattening.proofs.Walking.{flat_primitive-prim_of, prim_shaped}
+use Rattle.hd_flattening.proofs.Walking.{flat_primitive-prim_of, prim_conforms}
 use Rattle.hd_flattening.proofs.flattening.prim_at.Goals as goal
 
 pub flat_prim-requires : goal.flat_prim-requires
@@ -14,7 +14,7 @@ flat_prim-requires g c = λ (values : Map) there.
     let scene : Scene = g.I.SceneIndex.scene c.args.input.now in
     let path : List (List ℕ) = c.args.path.now in
     let asked : c.in_ok-prim.prim ≡ prim_of (get scene path) = c.in_ok-prim.ensures.value ∙ ap (λ (s : Scene). prim_of (get s path)) c.inherited_at.ensures.same_scene in
-    prim_shaped scene path c.in_ok-prim.prim values c.requires.shaped asked there
+    prim_conforms scene path c.in_ok-prim.prim values c.requires.conforms asked there
 
 pub returns-clause-value : goal.returns-clause-value
 returns-clause-value g c =

@@ -1,6 +1,6 @@
 use Rattle.hd_merging.specs.MergedScenes.{get-merged, there-merged}
 use Rattle.hd_merging.proofs.Apart.{value_at-strongest}
-use Rattle.hd_merging.proofs.Shaping.{value_at-merged}
+use Rattle.hd_merging.proofs.Conforming.{value_at-merged}
 use Rattle.hd_merging.proofs.laws.merging_is_path_by_path.Goals as goal
 
 pub returns-clause-prims : goal.returns-clause-prims

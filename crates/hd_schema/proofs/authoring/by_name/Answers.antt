@@ -4,7 +4,7 @@ use Rattle.std.specs.Ordering.{nat_cmp, is_lt}
 use Rattle.std.specs.List.Sorted.{IsPermutation}
 use Rattle.std.proofs.lemmas.List.{take_all}
 use Rattle.std.proofs.lemmas.List.Sorted.{IsPermutation-map, ranks_by, answers_always}
-use Rattle.hd_usda.specs.declared.spec.Property.{Property}
+use Rattle.hd_layer.specs.declared.spec.Property.{Property}
 use Rattle.hd_schema.proofs.authoring.by_name.Goals as goal
 
 pub returns-clause-same : goal.returns-clause-same

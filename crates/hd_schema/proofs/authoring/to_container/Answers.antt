@@ -1,10 +1,10 @@
 use Rattle.std.proofs.Common.{◌+◌, map, take, List, [], Bor, sym, subst}
-use Rattle.hd_usda.specs.declared.spec.Property.{Property}
+use Rattle.hd_layer.specs.declared.spec.Property.{Property}
 use Rattle.hd_value.specs.Maps.{Map}
 use Rattle.hd_schema.specs.Authored.{with_property}
 use Rattle.hd_schema.proofs.Putting.{Holds, free_at, put_holds, none_held}
 use Rattle.hd_schema.proofs.Sorting.{IsOnce, prim_once, permuted_once, next_new, next_taken, moved_to, held_all}
-use Rattle.hd_schema.proofs.Shaping.{authored_shaped}
+use Rattle.hd_schema.proofs.Conforming.{authored_conforms}
 use Rattle.hd_schema.proofs.Valued.{authored_each}
 use Rattle.hd_schema.proofs.authoring.to_container.Goals as goal
 
@@ -37,8 +37,8 @@ returns-clause-each c =
     authored_each c.loop-property.values c.args.prim.now c.requires.well_formed
     (held_all c.loop-property.values c.args.prim.now c.deref-property-items.result.now c.loop-property.property-index c.requires.well_formed moved c.loop-property-test.false c.loop-property.invariant)
 
-pub returns-clause-shaped : goal.returns-clause-shaped
-returns-clause-shaped c =
+pub returns-clause-conforms : goal.returns-clause-conforms
+returns-clause-conforms c =
     let moved = moved_to c.args.prim.now.properties c.items.result.now c.in_ok-properties.properties.items c.deref-property-items.result.now c.items.ensures c.deref-property-items.ensures.value c.in_ok-properties.ensures.same in
-    authored_shaped c.loop-property.values c.args.prim.now c.requires.well_formed
+    authored_conforms c.loop-property.values c.args.prim.now c.requires.well_formed
     (held_all c.loop-property.values c.args.prim.now c.deref-property-items.result.now c.loop-property.property-index c.requires.well_formed moved c.loop-property-test.false c.loop-property.invariant)

@@ -1,7 +1,7 @@
 use Rattle.std.proofs.Common.{◌≤◌, sym, subst}
 use Rattle.std.specs.FinMap.{len}
-use Rattle.hd_usda.specs.declared.limits.Which.TheVariants.{Prims}
-use Rattle.hd_usda.specs.Limits.{limit_of}
+use Rattle.hd_layer.specs.declared.limits.Which.TheVariants.{Prims}
+use Rattle.hd_layer.specs.Limits.{limit_of}
 use Rattle.hd_retained.specs.Layers.{Layer}
 use Rattle.hd_stack.proofs.Counted.{few_read}
 use Rattle.hd_stack.proofs.stack.input_of.Goals as goal
@@ -9,6 +9,6 @@ use Rattle.hd_stack.proofs.stack.input_of.Goals as goal
 pub returns-clause-sound : goal.returns-clause-sound
 returns-clause-sound c = record {
   closed = c.is_in_step.ensures;
-  shaped = c.is_shaped.ensures;
+  conforms = c.conforms.ensures;
   few = subst (λ (l : Layer). len l ≤ limit_of Prims) (sym c.in_ok-input.ensures.layer) (few_read c.args.layer c.requires);
 }

@@ -1,4 +1,4 @@
-use Rattle.hd_usda.specs.declared.lexer.Kind.TheVariants.{CloseCurly}
+use Rattle.hd_lexer.specs.declared.lexer.Kind.TheVariants.{CloseCurly}
 use Rattle.hd_usda.specs.Cursors.{count}
 use Rattle.hd_usda.specs.Items.{next_sample}
 use Rattle.hd_usda.proofs.Passing.{Leads}

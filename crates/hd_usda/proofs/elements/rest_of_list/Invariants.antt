@@ -1,4 +1,4 @@
-use Rattle.hd_usda.specs.declared.lexer.Kind.TheVariants.{CloseSquare}
+use Rattle.hd_lexer.specs.declared.lexer.Kind.TheVariants.{CloseSquare}
 use Rattle.hd_usda.specs.Cursors.{count}
 use Rattle.hd_usda.specs.Elements.{next_element}
 use Rattle.hd_usda.proofs.Collecting.{Collects}

@@ -1,4 +1,4 @@
-use Rattle.hd_usda.specs.declared.lexer.Kind.TheVariants.{CloseRound, CloseSquare, CloseCurly, Colon, End}
+use Rattle.hd_lexer.specs.declared.lexer.Kind.TheVariants.{CloseRound, CloseSquare, CloseCurly, Colon, End}
 use Rattle.hd_usda.specs.Values as values
 use Rattle.hd_usda.specs.Metadata.{entry}
 use Rattle.hd_usda.specs.Elements.{next_element}

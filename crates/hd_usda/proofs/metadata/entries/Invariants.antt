@@ -1,4 +1,4 @@
-use Rattle.hd_usda.specs.declared.lexer.Kind.TheVariants.{CloseRound}
+use Rattle.hd_lexer.specs.declared.lexer.Kind.TheVariants.{CloseRound}
 use Rattle.hd_usda.specs.Cursors.{count}
 use Rattle.hd_usda.specs.Metadata.{entry}
 use Rattle.hd_usda.proofs.Passing.{Leads}

@@ -1,5 +1,5 @@
 use Rattle.std.proofs.Common.{◌+◌, ◌*◌}
-use Rattle.hd_usda.specs.declared.lexer.Kind.TheVariants.{CloseCurly}
+use Rattle.hd_lexer.specs.declared.lexer.Kind.TheVariants.{CloseCurly}
 use Rattle.hd_usda.specs.Cursors.{count}
 use Rattle.hd_usda.specs.Prims.{item, prim}
 use Rattle.hd_usda.specs.PrimViews.{inside_view}

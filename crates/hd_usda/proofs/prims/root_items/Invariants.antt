@@ -1,4 +1,4 @@
-use Rattle.hd_usda.specs.declared.lexer.Kind.TheVariants.{End}
+use Rattle.hd_lexer.specs.declared.lexer.Kind.TheVariants.{End}
 use Rattle.hd_usda.specs.Cursors.{count}
 use Rattle.hd_usda.specs.Prims.{root_item}
 use Rattle.hd_usda.specs.PrimViews.{inside_view}

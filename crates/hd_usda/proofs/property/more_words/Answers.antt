@@ -1,6 +1,6 @@
 use Rattle.hd_usda.specs.Bodies.{joined_view}
 use Rattle.std.proofs.lemmas.Result.{err_from_is_err_and}
-use Rattle.hd_usda.specs.declared.lexer.Kind.TheVariants.{Colon}
+use Rattle.hd_lexer.specs.declared.lexer.Kind.TheVariants.{Colon}
 use Rattle.hd_usda.specs.Items.{next_word}
 use Rattle.hd_usda.proofs.Chaining.{chains_begin, chains_on, chains_end, chains_fails}
 use Rattle.hd_usda.proofs.property.more_words.Goals as goal

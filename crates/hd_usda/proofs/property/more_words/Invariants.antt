@@ -1,5 +1,5 @@
 use Rattle.hd_usda.specs.Bodies.{joined_view}
-use Rattle.hd_usda.specs.declared.lexer.Kind.TheVariants.{Colon}
+use Rattle.hd_lexer.specs.declared.lexer.Kind.TheVariants.{Colon}
 use Rattle.hd_usda.specs.Cursors.{count}
 use Rattle.hd_usda.specs.Items.{next_word}
 use Rattle.hd_usda.proofs.Chaining.{Chains}

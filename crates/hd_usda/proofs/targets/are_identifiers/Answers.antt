@@ -2,7 +2,7 @@ use Rattle.std.proofs.Common.{◌≡◌, ◌∙◌, sym, ap, length, take, true,
 use Rattle.hd_path.specs.Names.{is_identifier}
 use Rattle.hd_path.specs.Parsing.{is_slash}
 use Rattle.hd_usda.specs.Targets.{are_identifiers}
-use Rattle.hd_usda.proofs.Splitting.{behind_first, all_fails, all_ends, all_goes_on}
+use Rattle.hd_tokens.proofs.Splitting.{behind_first, all_fails, all_ends, all_goes_on}
 use Rattle.hd_usda.proofs.targets.are_identifiers.Goals as goal
 
 pub returns-then-not-is_identifier : goal.returns-then-not-is_identifier

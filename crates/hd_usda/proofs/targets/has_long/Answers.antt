@@ -2,7 +2,7 @@ use Rattle.std.proofs.Common.{◌≡◌, ◌∙◌, sym, ap, length, take, true,
 use Rattle.hd_path.specs.Parsing.{is_slash}
 use Rattle.hd_usda.specs.Targets.{has_long}
 use Rattle.hd_usda.specs.Names.{is_long}
-use Rattle.hd_usda.proofs.Splitting.{behind_first, any_passes, any_ends, any_goes_on}
+use Rattle.hd_tokens.proofs.Splitting.{behind_first, any_passes, any_ends, any_goes_on}
 use Rattle.hd_usda.proofs.targets.has_long.Goals as goal
 
 pub returns-then-is_long : goal.returns-then-is_long

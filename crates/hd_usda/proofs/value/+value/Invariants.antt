@@ -1,5 +1,5 @@
 use Rattle.std.proofs.Common.{◌+◌, ◌*◌}
-use Rattle.hd_usda.specs.declared.lexer.Kind.TheVariants.{CloseRound, CloseSquare, CloseCurly}
+use Rattle.hd_lexer.specs.declared.lexer.Kind.TheVariants.{CloseRound, CloseSquare, CloseCurly}
 use Rattle.hd_usda.specs.Cursors.{count}
 use Rattle.hd_usda.specs.Values.{next_of_tuple, next_of_list, entry_of_dict, value}
 use Rattle.hd_usda.proofs.Passing.{Leads}

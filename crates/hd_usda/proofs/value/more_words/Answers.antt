@@ -1,5 +1,5 @@
 use Rattle.std.proofs.lemmas.Result.{err_from_is_err_and}
-use Rattle.hd_usda.specs.declared.lexer.Kind.TheVariants.{Colon}
+use Rattle.hd_lexer.specs.declared.lexer.Kind.TheVariants.{Colon}
 use Rattle.hd_usda.specs.Values.{next_word}
 use Rattle.hd_usda.proofs.Chaining.{chains_begin, chains_on, chains_end, chains_fails}
 use Rattle.hd_usda.proofs.value.more_words.Goals as goal

@@ -1,4 +1,4 @@
-use Rattle.hd_usda.specs.declared.lexer.Kind.TheVariants.{Colon}
+use Rattle.hd_lexer.specs.declared.lexer.Kind.TheVariants.{Colon}
 use Rattle.hd_usda.specs.Cursors.{count}
 use Rattle.hd_usda.specs.Values.{next_word}
 use Rattle.hd_usda.proofs.Chaining.{Chains}

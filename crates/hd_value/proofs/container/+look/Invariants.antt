@@ -2,4 +2,4 @@ use Rattle.std.proofs.Common.{length}
 use Rattle.hd_value.proofs.container.+look.Given as goal
 
 abbrev pub decreases-look : goal.decreases-look
-decreases-look l = length l.tokens.now
+decreases-look g l = length l.tokens.now

@@ -1,4 +1,4 @@
-use Rattle.std.proofs.Common.{◌≡◌, ◌∷◌, List, set, Some, sym, ap, subst, ◌∙◌, arith, rules}
+use Rattle.std.proofs.Common.{◌≡◌, ◌∷◌, ℕ, List, set, Some, sym, ap, subst, ◌∙◌, arith, rules}
 use Rattle.std.specs.List.{insert}
 use Rattle.std.proofs.lemmas.Result.{on_ok_weaker, on_err_weaker}
 use Rattle.hd_value.specs.declared.container.Entry.{Entry}
@@ -48,7 +48,9 @@ pub put_in-put_at-requires : goal.put_in-put_at-requires
 put_in-put_at-requires t c =
     let es = c.args.entries.now.items in
     let entry = c.index_mut-entry.result.now in
-    let place : IsPlace c.args.first.now es c.in-Ok.i = subst (λ (fs : List Entry). IsPlace c.args.first.now fs c.in-Ok.i) c.deref.ensures.value c.in-Ok.ensures.found in
+    let place : IsPlace c.args.first.now es c.in-Ok.i =
+    subst (λ (token : List ℕ). IsPlace token es c.in-Ok.i) c.text.ensures (subst (λ (fs : List Entry). IsPlace c.text.result.now fs c.in-Ok.i) c.deref.ensures.value c.in-Ok.ensures.found)
+    in
     let there : source_at c.args.first.now es ≡ Some entry.source =
     at_place c.args.first.now es c.in-Ok.i entry c.requires.entries place.in_range (place.has_token entry) ∙ ap (λ e. Some e.source) (sym c.index_mut-entry.ensures.value)
     in
@@ -60,7 +62,9 @@ put_in-returns-in-Ok-clause-ok t c =
     let es = c.args.entries.now.items in
     let i = c.in-Ok.i in
     let entry = c.index_mut-entry.result.now in
-    let place : IsPlace t es i = subst (λ (fs : List Entry). IsPlace t fs i) c.deref.ensures.value c.in-Ok.ensures.found in
+    let place : IsPlace t es i =
+    subst (λ (token : List ℕ). IsPlace token es i) c.text.ensures (subst (λ (fs : List Entry). IsPlace c.text.result.now fs i) c.deref.ensures.value c.in-Ok.ensures.found)
+    in
     let there : source_at t es ≡ Some entry.source =
     at_place t es i entry c.requires.entries place.in_range (place.has_token entry) ∙ ap (λ e. Some e.source) (sym c.index_mut-entry.ensures.value)
     in
@@ -77,7 +81,9 @@ put_in-returns-in_ok-insert-in-Err-clause-ok t c =
     let t = c.args.first.now in
     let es = c.args.entries.now.items in
     let i = c.in-Err.i in
-    let gap : IsGap t es i = subst (λ (fs : List Entry). IsGap t fs i) c.deref.ensures.value c.in-Err.ensures.missing in
+    let gap : IsGap t es i =
+    subst (λ (token : List ℕ). IsGap token es i) c.text.ensures (subst (λ (fs : List Entry). IsGap c.text.result.now fs i) c.deref.ensures.value c.in-Err.ensures.missing)
+    in
     c.in_ok-insert-in-Err.ensures.items
     ∙ ap (λ w. insert es i (record { token = w; source = c.in_ok-source_of-in-Err.field-0 })) c.in_ok-copy-in-Err.ensures
     ∙ ap (λ s. insert es i (record { token = t; source = s })) (c.in_ok-source_of-in-Err.ensures ∙ ap (λ o. source_with o c.args.rest.now c.args.value) (sym (none_in_gap t es i gap)))

@@ -1,7 +1,7 @@
 use Rattle.std.proofs.Common.{◌≡◌, ℕ, List, sym, ap, subst, ◌∙◌}
 use Rattle.std.specs.Prelude.{IfOk}
-use Rattle.hd_value.specs.Shapes.{is_instanced}
-use Rattle.hd_scene.specs.Scenes.{Scene, children_of, IsShapedBy}
+use Rattle.hd_value.specs.Schema.{is_instanced}
+use Rattle.hd_scene.specs.Scenes.{Scene, children_of, SceneConforms}
 use Rattle.hd_flattening.specs.Filters.{Filter}
 use Rattle.hd_flattening.proofs.Walking.{children_of-flattened}
 use Rattle.hd_flattening.proofs.flattening.FlatteningSceneIndex.children.Goals as goal
@@ -18,4 +18,4 @@ pub returns-clause-in_step : goal.returns-clause-in_step
 returns-clause-in_step g c =
     let scene = g.I.SceneIndex.scene in
     let same : scene c.self.inside.input ≡ scene c.args.self.now.input = ap (λ (v : Filter _). scene v.input) c.self.view_is in
-    (c.children.ensures.in_step, subst (IsShapedBy is_instanced) (sym (c.children.ensures.same_scene ∙ same)) c.requires.1)
+    (c.children.ensures.in_step, subst (SceneConforms is_instanced) (sym (c.children.ensures.same_scene ∙ same)) c.requires.1)

@@ -1,7 +1,7 @@
 use Rattle.std.proofs.Common.{ℕ, List, ap, ◌∙◌}
 use Rattle.std.specs.List.{list_all}
-use Rattle.hd_usda.specs.declared.spec.Property.{Property}
-use Rattle.hd_usda.specs.WellFormed.{is_below_root, is_property, are_distinct}
+use Rattle.hd_layer.specs.declared.spec.Property.{Property}
+use Rattle.hd_layer.specs.WellFormed.{is_below_root, is_property, are_distinct}
 use Rattle.hd_retained.specs.Layers.{properties_of}
 use Rattle.hd_retained.proofs.Listing.{names, below_root, made_spec, prim_from}
 use Rattle.hd_retained.proofs.held.Held.with_properties.Goals as goal

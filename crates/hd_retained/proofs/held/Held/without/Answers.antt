@@ -1,8 +1,8 @@
 use Rattle.std.proofs.Common.{◌≡◌, List, not, ap, ◌∙◌}
 use Rattle.std.specs.List.{list_all}
 use Rattle.std.specs.Str.{bytes_eq}
-use Rattle.hd_usda.specs.declared.spec.Property.{Property}
-use Rattle.hd_usda.specs.WellFormed.{is_property, are_distinct}
+use Rattle.hd_layer.specs.declared.spec.Property.{Property}
+use Rattle.hd_layer.specs.WellFormed.{is_property, are_distinct}
 use Rattle.hd_retained.specs.Layers.{properties_of}
 use Rattle.hd_retained.specs.Edits.{without_value}
 use Rattle.hd_retained.specs.Indexed.{prim_of}

@@ -2,8 +2,8 @@ use Rattle.std.proofs.Common.{◌≡◌, List, [], ◌∷◌, ◌++◌, map, len
 use Rattle.std.proofs.lemmas.List.Elements.{All-nil}
 use Rattle.std.specs.Prelude.{All}
 use Rattle.std.specs.Vec.Iter.{into_iter_items}
-use Rattle.hd_usda.specs.WellFormed.{is_layer}
-use Rattle.hd_usda.specs.declared.spec.LayerSpec.{LayerSpec}
+use Rattle.hd_layer.specs.WellFormed.{is_layer}
+use Rattle.hd_layer.specs.declared.spec.LayerSpec.{LayerSpec}
 use Rattle.hd_retained.specs.Edits.{State}
 use Rattle.hd_retained.specs.Layers.{layer_of}
 use Rattle.hd_merging.specs.Merged.{Merged}

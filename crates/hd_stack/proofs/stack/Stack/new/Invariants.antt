@@ -1,7 +1,7 @@
 use Rattle.std.proofs.Common.{◌≡◌, ◌++◌, map, length, IsTrue}
 use Rattle.std.specs.Prelude.{All}
 use Rattle.std.specs.Vec.Iter.{into_iter_items, into_iter_len}
-use Rattle.hd_usda.specs.WellFormed.{is_layer}
+use Rattle.hd_layer.specs.WellFormed.{is_layer}
 use Rattle.hd_retained.specs.Layers.{layer_of}
 use Rattle.hd_stack.specs.Stacks.{AreSound}
 use Rattle.hd_stack.proofs.Layered.{layers_of}

@@ -3,13 +3,13 @@ use Rattle.hd_scene.specs.Scenes.{Scene, children_of}
 use Rattle.hd_retained.specs.Edits.{State}
 use Rattle.hd_flattening.specs.Flattened.{flattened}
 use Rattle.hd_stack.specs.Stacks.{Stacked, terminal_scene}
-use Rattle.hd_stack.proofs.Layered.{inputs_closed, terminal_shaped, same_scene}
+use Rattle.hd_stack.proofs.Layered.{inputs_closed, terminal_conforms, same_scene}
 use Rattle.hd_stack.proofs.stack.StackSceneIndex.children.Goals as goal
 
 pub children-requires : goal.children-requires
 children-requires c =
     let inputs : List State = c.self.inside.terminal.input.inputs in
-    (inputs_closed inputs c.self.invariant.sound, terminal_shaped inputs c.self.invariant.sound)
+    (inputs_closed inputs c.self.invariant.sound, terminal_conforms inputs c.self.invariant.sound)
 
 pub returns-clause-value : goal.returns-clause-value
 returns-clause-value c =

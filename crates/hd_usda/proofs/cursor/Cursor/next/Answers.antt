@@ -1,6 +1,6 @@
 use Rattle.std.proofs.Common.{◌∙◌, ap, sym, arith, ◌<◌, ◌≡◌, length, ◌+◌, drop, take}
 use Rattle.std.proofs.lemmas.Grind.{common_steps}
-use Rattle.hd_usda.specs.Lexing.{tokens_from, line_over}
+use Rattle.hd_lexer.specs.Lexing.{tokens_from, line_over}
 use Rattle.hd_usda.specs.Cursors.{rest}
 use Rattle.hd_usda.proofs.Heading.{rest_is, rest_ends}
 use Rattle.hd_usda.proofs.cursor.Cursor.next.Goals as goal

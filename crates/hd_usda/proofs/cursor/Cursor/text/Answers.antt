@@ -1,5 +1,5 @@
 use Rattle.std.proofs.Common.{◌∙◌, ap}
-use Rattle.hd_usda.specs.declared.lexer.Kind.TheVariants.{Word}
+use Rattle.hd_lexer.specs.declared.lexer.Kind.TheVariants.{Word}
 use Rattle.hd_usda.specs.Cursors.{is, text}
 use Rattle.hd_usda.proofs.Heading.{text_is}
 use Rattle.hd_usda.proofs.WordTexts.{word_is_ascii}

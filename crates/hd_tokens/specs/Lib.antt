@@ -1,0 +1,4 @@
+pub mod Names
+pub mod Locators
+pub mod Properties
+pub mod Tables

@@ -1,7 +1,0 @@
-use Rattle.std.proofs.Common.{◌≡◌, drop, false}
-use Rattle.hd_usda.specs.Lexing.{inside_from}
-use Rattle.hd_usda.specs.Scanned.{quoting}
-use Rattle.hd_usda.proofs.lexer.inside_len.Given as goal
-
-abbrev pub invariant-loop-i : goal.invariant-loop-i
-invariant-loop-i l = inside_from (quoting l.how) l.escaped l.i (drop l.i l.bytes) ≡ inside_from (quoting l.how) false 0 l.bytes

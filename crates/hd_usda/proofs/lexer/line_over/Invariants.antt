@@ -1,6 +1,0 @@
-use Rattle.std.proofs.Common.{◌≡◌, drop}
-use Rattle.hd_usda.specs.Lexing.{line_over}
-use Rattle.hd_usda.proofs.lexer.line_over.Given as goal
-
-abbrev pub invariant-loop-b : goal.invariant-loop-b
-invariant-loop-b l = line_over l.at (drop l.b-index l.bytes) ≡ line_over l.line l.bytes
