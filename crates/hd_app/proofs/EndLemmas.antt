@@ -2,9 +2,9 @@
 use Rattle.std.proofs.Common.{◌≡◌, ℕ, List, [], ◌∷◌, refl, subst, inl, inr}
 use Rattle.hd_io.specs.declared.fault.OutsideFault.{OutsideFault}
 use Rattle.hd_io.specs.declared.fault.OutsideFault.TheVariants.{Failed, NoMemory}
-use Rattle.hd_picture.specs.Pixels.{picture}
+use Rattle.hd_picture.specs.define.Pixels.{picture}
 use Rattle.hd_picture.specs.Ppm.{ppm}
-use Rattle.hd_usda.specs.declared.spec.LayerSpec.{LayerSpec}
+use Rattle.hd_layer.specs.declared.spec.LayerSpec.{LayerSpec}
 use Rattle.hd_io.specs.Acts.{file, line, Outside, WroteCut, WriteCause}
 use Rattle.hd_app.specs.Stages.{Ends, status_of_write}
 use Rattle.hd_app.specs.Outcomes.{drawn, root_frame, frame_line}

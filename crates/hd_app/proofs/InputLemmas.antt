@@ -6,11 +6,11 @@ use Rattle.std.proofs.lemmas.List.{append_assoc, take-append-le, get_or_append_l
 use Rattle.std.proofs.lemmas.List.Elements.{All-nil, All-cons, All-append, All-head, All-rest, Contains-get_or, Contains-push, Contains-append_left}
 use Rattle.std.proofs.lemmas.Option.{slice_get_within, slice_get-get_or, get_or_from_slice_get}
 use Rattle.std.proofs.Math.Seq.{drop-cons, take-suc, take-append_seam, get_or-append_seam}
-use Rattle.hd_usda.specs.declared.limits.Which.{Which}
-use Rattle.hd_usda.specs.declared.limits.Which.TheVariants.{Layers, Bytes}
-use Rattle.hd_usda.specs.declared.spec.LayerSpec.{LayerSpec}
-use Rattle.hd_usda.specs.Limits.{limit_of}
-use Rattle.hd_usda.specs.WellFormed.{is_layer}
+use Rattle.hd_layer.specs.declared.limits.Which.{Which}
+use Rattle.hd_layer.specs.declared.limits.Which.TheVariants.{Layers, Bytes}
+use Rattle.hd_layer.specs.declared.spec.LayerSpec.{LayerSpec}
+use Rattle.hd_layer.specs.Limits.{limit_of}
+use Rattle.hd_layer.specs.WellFormed.{is_layer}
 use Rattle.hd_io.specs.Causes.{Rose}
 use Rattle.hd_io.specs.Files.{FileMap}
 use Rattle.hd_session.specs.States.{opened}

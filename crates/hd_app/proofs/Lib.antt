@@ -7,7 +7,6 @@ pub mod FrameLemmas
 pub mod Fronts
 pub mod InputLemmas
 pub mod LineLemmas
-pub mod NameLemmas
 pub mod Nearness
 pub mod RunLemmas
 pub mod ScriptLemmas

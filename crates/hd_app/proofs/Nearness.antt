@@ -7,8 +7,8 @@ use Rattle.std.proofs.lemmas.List.Elements.{All-nil, All-cons, All-append}
 use Rattle.hd_num.specs.declared.vector.Vec3.{Vec3}
 use Rattle.hd_picture.specs.declared.draws.WorldTri.{WorldTri}
 use Rattle.hd_picture.specs.Limits.{IsWithin, IsPointWithin, IsTriWithin}
-use Rattle.hd_usda.specs.declared.spec.PrimSpec.{PrimSpec}
-use Rattle.hd_usda.specs.declared.spec.LayerSpec.{LayerSpec}
+use Rattle.hd_layer.specs.declared.spec.PrimSpec.{PrimSpec}
+use Rattle.hd_layer.specs.declared.spec.LayerSpec.{LayerSpec}
 use Rattle.hd_app.specs.Fans.{takes_all, faces, fan}
 use Rattle.hd_app.specs.RootDraws.{white, is_near, if_near, named_point, point_at, triangle_of, triangle, face_triangles, value_named, numbers_in, triples_in, prim_triangles, is_root_mesh, root_draws}
 

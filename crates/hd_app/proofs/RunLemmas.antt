@@ -2,7 +2,7 @@
 use Rattle.std.proofs.Common.{◌≡◌, ◌⊎◌, ℕ, ◌∙◌, List, [], ◌∷◌, Option, Some, None, Ok, refl, sym, ap, subst, inl, inr}
 use Rattle.std.proofs.Math.Seq.{take-nil}
 use Rattle.std.specs.Prelude.{IfSome}
-use Rattle.hd_usda.specs.declared.spec.LayerSpec.{LayerSpec}
+use Rattle.hd_layer.specs.declared.spec.LayerSpec.{LayerSpec}
 use Rattle.hd_io.specs.Causes.{Rose}
 use Rattle.hd_io.specs.Files.{FileList, FileMap}
 use Rattle.hd_app.specs.declared.status.Status.{Status}

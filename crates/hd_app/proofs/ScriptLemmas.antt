@@ -4,8 +4,8 @@ use Rattle.std.specs.Prelude.{Result, Contains, IfSome, codes, nat_lt, slice_ind
 use Rattle.std.specs.Str.{bytes_eq}
 use Rattle.std.proofs.lemmas.Bool.Decides.{nat_tests}
 use Rattle.std.proofs.lemmas.List.Elements.{Contains-push}
-use Rattle.hd_usda.specs.declared.spec.LayerSpec.{LayerSpec}
-use Rattle.hd_usda.specs.Limits.{limit_of}
+use Rattle.hd_layer.specs.declared.spec.LayerSpec.{LayerSpec}
+use Rattle.hd_layer.specs.Limits.{limit_of}
 use Rattle.hd_io.specs.Acts.{Outside}
 use Rattle.hd_script.specs.declared.command.Command.{Command}
 use Rattle.hd_script.specs.declared.fault.LineFault.{LineFault}

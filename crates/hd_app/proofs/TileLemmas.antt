@@ -7,8 +7,8 @@ use Rattle.std.proofs.lemmas.List.{get_or_append_left, get_or-append_right}
 use Rattle.std.proofs.lemmas.List.FromFn.{length-map-range_with_len, get_or-map-range_with_len}
 use Rattle.hd_num.specs.declared.vector.Rgb.{Rgb}
 use Rattle.hd_picture.specs.declared.draws.Draws.{Draws}
-use Rattle.hd_picture.specs.Pixels.{black, pixel, picture}
-use Rattle.hd_picture.specs.Tiling.{tile, tile_count, pixel_or_black}
+use Rattle.hd_picture.specs.define.Pixels.{black, pixel, picture}
+use Rattle.hd_picture.specs.raster.Tiles.{tile, tile_count, pixel_or_black}
 use Rattle.hd_app.specs.Frames.{place_of, framed}
 
 pixel_inside : (draws : Draws) (x y : ℕ) → x < draws.width → y < draws.height → pixel_or_black draws x y ≡ pixel draws x y

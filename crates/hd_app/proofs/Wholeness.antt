@@ -3,11 +3,11 @@ use Rattle.std.proofs.Common.{ℕ, length, Bool, true, false, if◌then◌else�
 use Rattle.std.specs.Prelude.{Result, nat_lt}
 use Rattle.hd_usda.specs.Cursors.{Fault}
 use Rattle.hd_usda.specs.Layers.{reads}
-use Rattle.hd_usda.specs.Limits.{limit_of}
-use Rattle.hd_usda.specs.declared.fault.LayerWhy.{LayerWhy}
-use Rattle.hd_usda.specs.declared.fault.LayerWhy.TheVariants as why
-use Rattle.hd_usda.specs.declared.limits.Which.TheVariants.{Layers, Bytes}
-use Rattle.hd_usda.specs.declared.spec.LayerSpec.{LayerSpec}
+use Rattle.hd_layer.specs.Limits.{limit_of}
+use Rattle.hd_layer.specs.declared.fault.LayerWhy.{LayerWhy}
+use Rattle.hd_layer.specs.declared.fault.LayerWhy.TheVariants as why
+use Rattle.hd_layer.specs.declared.limits.Which.TheVariants.{Layers, Bytes}
+use Rattle.hd_layer.specs.declared.spec.LayerSpec.{LayerSpec}
 use Rattle.hd_io.specs.Files.{FileMap, bytes_of}
 use Rattle.hd_session.specs.States.{opened}
 use Rattle.hd_app.specs.declared.status.Status.{Status}

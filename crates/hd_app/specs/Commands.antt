@@ -1,8 +1,8 @@
 -- The commands of the program, by the words that follow its name.
 use Rattle.std.specs.Prelude.{ℕ, ◌-◌, ◌≤◌, List, [], ◌∷◌, ◌++◌, length, take, slice_index_or, Option, Some, None, nat_lt, codes, if◌then◌else◌}
 use Rattle.std.specs.Str.{bytes_eq}
-use Rattle.hd_usda.specs.declared.limits.Which.TheVariants.{Layers}
-use Rattle.hd_usda.specs.Limits.{limit_of}
+use Rattle.hd_layer.specs.declared.limits.Which.TheVariants.{Layers}
+use Rattle.hd_layer.specs.Limits.{limit_of}
 
 -- draw LAYER OUT: one layer to one picture. step LAYER.. SCRIPT: layers, of which the first is the strongest, and a script
 pub data Program : Type 0 where

@@ -1,8 +1,8 @@
 -- The lines that tell why a command was refused, and the numbers that the program ends with.
 use Rattle.std.specs.Prelude.{ℕ, List, [], ◌++◌, codes, decimal}
-use Rattle.hd_usda.specs.declared.fault.LayerWhy.{LayerWhy}
-use Rattle.hd_usda.specs.declared.fault.LayerWhy.TheVariants as why
-use Rattle.hd_usda.specs.Limits.{word_of}
+use Rattle.hd_layer.specs.declared.fault.LayerWhy.{LayerWhy}
+use Rattle.hd_layer.specs.declared.fault.LayerWhy.TheVariants as why
+use Rattle.hd_layer.specs.Limits.{word_of}
 use Rattle.hd_session.specs.declared.refusal.ScriptWhy.{ScriptWhy}
 use Rattle.hd_session.specs.declared.refusal.ScriptWhy.TheVariants as script
 use Rattle.hd_app.specs.declared.status.Status.{Status}

@@ -1,7 +1,7 @@
 -- A frame of 64 by 64 pixels in tiles.
 use Rattle.std.specs.Prelude.{ℕ, ◌+◌, ◌*◌, ◌/◌, ◌%◌, List, slice_index_or}
 use Rattle.hd_num.specs.declared.vector.Rgb.{Rgb}
-use Rattle.hd_picture.specs.Pixels.{black}
+use Rattle.hd_picture.specs.define.Pixels.{black}
 
 -- where the pixel in column x of row y stands, in tiles of 16 by 16 pixels of which four stand side by side
 abbrev pub place_of : (x y : ℕ) → ℕ

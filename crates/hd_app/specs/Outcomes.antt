@@ -2,15 +2,15 @@
 use Rattle.std.specs.Prelude.{ℕ, ◌++◌, pos, List, [], ◌∷◌, length, Option, Some, None, Result, Ok, Err, nat_lt, codes, if◌then◌else◌}
 use Rattle.hd_num.specs.declared.vector.Vec3.{Vec3}
 use Rattle.hd_picture.specs.declared.draws.Draws.{Draws}
-use Rattle.hd_picture.specs.Pixels.{picture}
+use Rattle.hd_picture.specs.define.Pixels.{picture}
 use Rattle.hd_picture.specs.Ppm.{ppm}
-use Rattle.hd_usda.specs.declared.fault.LayerWhy.{LayerWhy}
-use Rattle.hd_usda.specs.declared.fault.LayerWhy.TheVariants as why
-use Rattle.hd_usda.specs.declared.limits.Which.TheVariants.{Layers, Bytes}
-use Rattle.hd_usda.specs.declared.spec.LayerSpec.{LayerSpec}
+use Rattle.hd_layer.specs.declared.fault.LayerWhy.{LayerWhy}
+use Rattle.hd_layer.specs.declared.fault.LayerWhy.TheVariants as why
+use Rattle.hd_layer.specs.declared.limits.Which.TheVariants.{Layers, Bytes}
+use Rattle.hd_layer.specs.declared.spec.LayerSpec.{LayerSpec}
 use Rattle.hd_usda.specs.Cursors.{Fault}
 use Rattle.hd_usda.specs.Layers.{reads}
-use Rattle.hd_usda.specs.Limits.{limit_of}
+use Rattle.hd_layer.specs.Limits.{limit_of}
 use Rattle.hd_io.specs.Acts.{file, line}
 use Rattle.hd_io.specs.Files.{FileMap, bytes_of}
 use Rattle.hd_session.specs.States.{opened}

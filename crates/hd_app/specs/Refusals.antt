@@ -8,12 +8,12 @@ use Rattle.hd_app.specs.declared.status.Place.TheVariants.{Words, File, Line}
 use Rattle.hd_app.specs.declared.reading.ReadStop.{ReadStop}
 use Rattle.hd_app.specs.declared.reading.ReadStop.TheVariants.{Failed, TooLong}
 use Rattle.hd_app.specs.declared.reading.ReadStop.TheVariants as stops
-use Rattle.hd_usda.specs.declared.fault.LayerFault.{LayerFault}
-use Rattle.hd_usda.specs.declared.fault.LayerFault.TheVariants.{At}
-use Rattle.hd_usda.specs.declared.fault.LayerFault.TheVariants as faults
-use Rattle.hd_usda.specs.declared.limits.Which.{Which}
-use Rattle.hd_usda.specs.declared.limits.Which.TheVariants.{Bytes}
-use Rattle.hd_usda.specs.Limits.{limit_of}
+use Rattle.hd_layer.specs.declared.fault.LayerFault.{LayerFault}
+use Rattle.hd_layer.specs.declared.fault.LayerFault.TheVariants.{At}
+use Rattle.hd_layer.specs.declared.fault.LayerFault.TheVariants as faults
+use Rattle.hd_layer.specs.declared.limits.Which.{Which}
+use Rattle.hd_layer.specs.declared.limits.Which.TheVariants.{Bytes}
+use Rattle.hd_layer.specs.Limits.{limit_of}
 use Rattle.hd_app.specs.Commands.{Program}
 use Rattle.hd_app.specs.Outcomes.{outcome_of, refusal_at, layer_in, layer_of_bytes, script_in, byte_limit}
 use Rattle.hd_app.specs.Refusing.{refused}

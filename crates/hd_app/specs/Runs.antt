@@ -6,9 +6,9 @@ use Rattle.hd_app.specs.declared.status.Status.{Status}
 use Rattle.hd_app.specs.declared.status.Status.TheVariants.{Done, Usage, Layer, Script, Limit, ReadFault, WriteFault, NoMemory}
 use Rattle.hd_app.specs.declared.status.Place.{Place}
 use Rattle.hd_app.specs.declared.status.Place.TheVariants.{Words, File, Line}
-use Rattle.hd_usda.specs.declared.limits.Which.{Which}
-use Rattle.hd_usda.specs.declared.limits.Which.TheVariants.{Layers, Bytes}
-use Rattle.hd_usda.specs.Limits.{limit_of}
+use Rattle.hd_layer.specs.declared.limits.Which.{Which}
+use Rattle.hd_layer.specs.declared.limits.Which.TheVariants.{Layers, Bytes}
+use Rattle.hd_layer.specs.Limits.{limit_of}
 use Rattle.hd_io.specs.Acts.{Outside, WroteCut}
 use Rattle.hd_app.specs.Commands.{Program, draw, step, layer_names, file_names, HasFewLayers}
 use Rattle.hd_app.specs.Outcomes.{outcome_of, layer_in, byte_limit}

@@ -1,6 +1,6 @@
 -- What a script does from its first line to its last.
 use Rattle.std.specs.Prelude.{ℕ, ◌+◌, List, [], ◌∷◌, ◌++◌, Option, Some, None, Result, Ok, Err, nat_eq, if◌then◌else◌}
-use Rattle.hd_usda.specs.Limits.{limit_of}
+use Rattle.hd_layer.specs.Limits.{limit_of}
 use Rattle.hd_io.specs.Acts.{Act}
 use Rattle.hd_script.specs.declared.command.Command.{Command}
 use Rattle.hd_script.specs.declared.fault.LineFault.{LineFault}

@@ -3,16 +3,16 @@
 ghost use Rattle.std.specs.Prelude.{◌≡◌, ◌++◌, ◌<◌, ◌≤◌, codes, decimal, length, map, flat_map, IfOk, OnOk};
 ghost use Rattle.std.specs.List.{range_with_len};
 ghost use Rattle.hd_picture.specs.Limits.{IsDrawable};
-ghost use Rattle.hd_picture.specs.Pixels.{picture};
+ghost use Rattle.hd_picture.specs.define.Pixels.{picture};
 ghost use Rattle.hd_picture.specs.Ppm.{ppm};
-ghost use Rattle.hd_picture.specs.Tiling.{tile, tile_count};
+ghost use Rattle.hd_picture.specs.raster.Tiles.{tile, tile_count};
 ghost use Rattle.hd_app.specs.Frames.{framed};
 ghost use Rattle.hd_app.specs.Outcomes.{root_frame};
 
 use crate::meshes::root_draws;
+use hd_layer::LayerSpec;
 use hd_num::{List, Rgb, Vec3};
 use hd_picture::{Draws, tile, tile_count};
-use hd_usda::LayerSpec;
 use std::alloc::{AllocError, Global};
 
 /// The width and the height of a drawn layer, in pixels.

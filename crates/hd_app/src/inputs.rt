@@ -2,7 +2,7 @@
 
 ghost use Rattle.std.specs.Prelude.{◌≡◌, ◌≤◌, length, map, string_bytes, All, IfOk, IfErr, IfSome, IsTrue, OnOk, Ok, Some, vec_len};
 ghost use Rattle.hd_session.specs.States.{opened};
-ghost use Rattle.hd_usda.specs.WellFormed.{is_layer};
+ghost use Rattle.hd_layer.specs.WellFormed.{is_layer};
 ghost use Rattle.hd_app.specs.Commands.{step};
 ghost use Rattle.hd_app.specs.Outcomes.{layers_in, script_in, stepped, byte_limit};
 ghost use Rattle.hd_app.specs.Runs.{shelf_state};
@@ -13,7 +13,7 @@ use crate::layer::{name_of, read_layer, stopped};
 use crate::reading::read_file;
 use crate::status::{Place, Status};
 use hd_io::Shelf;
-use hd_usda::{LayerSpec, Which};
+use hd_layer::{LayerSpec, Which};
 use std::alloc::Global;
 
 /// Reads the layers of these names in their order.

@@ -1,7 +1,7 @@
 //! Layers, read by the names of their files.
 
 ghost use Rattle.std.specs.Prelude.{◌≡◌, ◌≤◌, length, IfOk, IfErr, IfSome, IsTrue, OnOk, Ok};
-ghost use Rattle.hd_usda.specs.WellFormed.{is_layer};
+ghost use Rattle.hd_layer.specs.WellFormed.{is_layer};
 ghost use Rattle.hd_app.specs.Outcomes.{layer_in, layer_of_bytes, refusal_at, byte_limit};
 ghost use Rattle.hd_app.specs.Runs.{shelf_state};
 ghost use Rattle.hd_app.specs.Refusals.{status_of_stop, status_of_fault, RefusesBytes, RefusesLayer, ReadsWithin};
@@ -9,8 +9,8 @@ ghost use Rattle.hd_app.specs.Refusals.{status_of_stop, status_of_fault, Refuses
 use crate::reading::{ReadStop, read_file};
 use crate::status::{Place, Status};
 use hd_io::Shelf;
+use hd_layer::{LayerFault, LayerSpec, LayerWhy, Which};
 use hd_num::List;
-use hd_usda::{LayerFault, LayerSpec, LayerWhy, Which};
 use std::alloc::{AllocError, Global};
 
 /// The bytes of a name.

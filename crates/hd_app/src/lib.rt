@@ -9,8 +9,6 @@ mod meshes;
 mod reading;
 mod script;
 mod status;
-#[cfg(test)]
-mod tests;
 mod top;
 mod words;
 mod writing;

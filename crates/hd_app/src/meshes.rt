@@ -5,9 +5,9 @@ ghost use Rattle.std.specs.Option.{option_copied};
 ghost use Rattle.hd_app.specs.Fans.{takes_all, faces, fan_corners};
 ghost use Rattle.hd_app.specs.RootDraws.{is_near, if_near, named_point, point_at, triangle, face_triangles, mesh_triangles, value_named, numbers_in, triples_in, prim_triangles, is_root_mesh, root_draws};
 
+use hd_layer::{LayerSpec, PrimSpec, Property, RawValue};
 use hd_num::{Rgb, Vec3};
 use hd_picture::WorldTri;
-use hd_usda::{LayerSpec, PrimSpec, Property, RawValue};
 use std::alloc::{AllocError, Global};
 
 const WHITE: Rgb = Rgb {

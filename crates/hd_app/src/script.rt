@@ -8,8 +8,8 @@ ghost use Rattle.hd_script.specs.WellFormed.{is_command};
 ghost use Rattle.hd_session.specs.Answers.{Does};
 ghost use Rattle.hd_session.specs.Steps.{step, at_end};
 ghost use Rattle.hd_session.specs.States.{opened};
-ghost use Rattle.hd_usda.specs.Limits.{limit_of};
-ghost use Rattle.hd_usda.specs.WellFormed.{is_layer};
+ghost use Rattle.hd_layer.specs.Limits.{limit_of};
+ghost use Rattle.hd_layer.specs.WellFormed.{is_layer};
 ghost use Rattle.hd_app.specs.declared.status.Place.TheVariants.{Line};
 ghost use Rattle.hd_app.specs.Stages.{Ends};
 ghost use Rattle.hd_app.specs.Lines.{RefusesLine, lines_left};
@@ -20,9 +20,9 @@ use crate::layer::name_of;
 use crate::status::{Place, Status};
 use crate::writing::refuse;
 use hd_io::{Rack, Sink};
+use hd_layer::{LayerSpec, Which};
 use hd_script::{Command, LineFault};
 use hd_session::{Refusal, ScriptWhy, Session};
-use hd_usda::{LayerSpec, Which};
 use std::alloc::Global;
 
 /// The refusal of a line that passes a limit.

@@ -1,13 +1,13 @@
 //! How a run of the program ends.
 
 ghost use Rattle.std.specs.Prelude.{◌≡◌, ◌++◌, IfOk, OnOk, codes, decimal};
-ghost use Rattle.hd_usda.specs.Limits.{word_of};
+ghost use Rattle.hd_layer.specs.Limits.{word_of};
 ghost use Rattle.hd_app.specs.declared.status.Status.TheVariants.{NoMemory};
 ghost use Rattle.hd_app.specs.FaultLines.{number_of, why_word, script_word, place_text, fault_line};
 
+use hd_layer::{LayerWhy, Which};
 use hd_num::List;
 use hd_session::ScriptWhy;
-use hd_usda::{LayerWhy, Which};
 use std::alloc::{AllocError, AllocFailed, Global};
 
 /// Where a limit was passed.

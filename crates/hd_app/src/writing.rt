@@ -14,7 +14,7 @@ ghost use Rattle.hd_io.specs.Writing.{with_line, CutLine};
 use crate::frame::picture_file;
 use crate::status::Status;
 use hd_io::{OutsideFault, Rack, Sink, write_file, write_line};
-use hd_usda::LayerSpec;
+use hd_layer::LayerSpec;
 use std::alloc::{AllocError, Global};
 
 /// How a run ends whose write was broken off.

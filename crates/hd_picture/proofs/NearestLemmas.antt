@@ -7,10 +7,10 @@ use Rattle.std.proofs.lemmas.List.{get_or_default}
 use Rattle.std.proofs.lemmas.List.Elements.{All-from_get_or, All-push}
 use Rattle.std.proofs.Math.ListN.{get_or-append}
 use Rattle.std.proofs.Math.Seq.{get_or-append_seam}
-use Rattle.hd_picture.specs.declared.nearest.Fragment.{Fragment}
+use Rattle.hd_picture.specs.declared.define.pixels.Fragment.{Fragment}
 use Rattle.hd_picture.specs.Laws.{IsFirstNearest}
-use Rattle.hd_picture.specs.Pixels.{black, is_nearest, nearest, shown}
-use Rattle.hd_picture.specs.Shading.{nearer}
+use Rattle.hd_picture.specs.define.Pixels.{black, is_nearest, nearest, visible_color}
+use Rattle.hd_picture.specs.inner.Pixels.{nearer}
 
 -- the first element that passes is found
 find_first : {X : Type 0} → (p : X → Bool) (xs : List X) (i : ℕ) (x : X) → i < length xs → get_or xs i x ≡ x → p x ≡ true
@@ -143,8 +143,8 @@ nearest-append (f ∷ fs) g =
 
 -- what is seen is the color of the first of the nearest
 pub shows_first_nearest : (fs : List Fragment)
-    → ((fs ≡ []) × (shown fs ≡ black))
-    ⊎ ((i : ℕ) × (f : Fragment) × IsFirstNearest fs i f × (shown fs ≡ f.color))
+    → ((fs ≡ []) × (visible_color fs ≡ black))
+    ⊎ ((i : ℕ) × (f : Fragment) × IsFirstNearest fs i f × (visible_color fs ≡ f.color))
 shows_first_nearest [] = inl (refl, rw nearest-nil)
 shows_first_nearest (f ∷ fs) =
     let n = some_nearest f fs in

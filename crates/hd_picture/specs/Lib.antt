@@ -1,10 +1,6 @@
-pub mod Coverage
-pub mod Depth
 pub mod Laws
 pub mod Limits
-pub mod Pixels
 pub mod Ppm
-pub mod Scanning
-pub mod Shading
-pub mod Tiling
-pub mod View
+pub mod define
+pub mod inner
+pub mod raster

@@ -1,5 +1,5 @@
 -- What can be drawn.
-use Rattle.std.specs.Prelude.{ℕ, ◌^◌, ◌≤◌, ℤ, pos, neg_ℤ, ◌≤ℤ◌, All}
+use Rattle.std.specs.Prelude.{ℕ, pos, ℤ, neg_ℤ, ◌^◌, ◌≤◌, ◌≤ℤ◌, All}
 use Rattle.hd_num.specs.declared.vector.Vec3.{Vec3}
 use Rattle.hd_picture.specs.declared.draws.Draws.{Draws}
 use Rattle.hd_picture.specs.declared.draws.WorldTri.{WorldTri}

@@ -5,7 +5,7 @@ ghost use Rattle.std.specs.Prelude.{◌≡◌, IfOk};
 use hd_num::{List, Rgb, Vec3};
 use std::alloc::AllocError;
 
-/// A triangle of the world in one colour. Both of its sides are seen.
+/// A triangle of the world in one color. Both of its sides are seen.
 #[derive(Clone, Copy, Debug, PartialEq, Eq)]
 pub struct WorldTri {
     pub a: Vec3,
@@ -14,7 +14,7 @@ pub struct WorldTri {
     pub color: Rgb,
 }
 
-/// The triangles of a picture, the place of the eye, and the picture's size in pixels.
+/// The triangles of a picture, the position of the eye, and the picture's size in pixels.
 #[derive(Drop)]
 pub struct Draws {
     pub tris: List<WorldTri>,

@@ -1,7 +1,7 @@
 //! What follows from the definitions of the picture. The functions do nothing; their contracts are
 //! the laws.
 
-ghost use Rattle.hd_picture.specs.Laws.{BeyondShowsNothing, CoversEdges, CoversInBox, DepthsStayBetween, EachRoundsDown, FlatHasOneDepth, MirroredShowsTheSame, NeighboursFit, ShowsFirstNearest, TilesMakeThePicture, TurnedShowsTheSame, UnseenChangesNothing, WeightsAddUp};
+ghost use Rattle.hd_picture.specs.Laws.{BeyondShowsNothing, CoversEdges, CoversInBounds, DepthsStayBetween, EachRoundsDown, FlatHasOneDepth, MirrorImageShowsTheSame, NeighboursFit, RotationShowsTheSame, ShowsFirstNearest, TilesMakeThePicture, UnseenChangesNothing, WeightsAddUp};
 
 /// Depths are rounded down.
 pub fn depths_round_down()
@@ -21,13 +21,13 @@ pub fn triangles_beyond_the_eye_are_unseen()
 
 /// The order of a triangle's corners does not matter.
 pub fn corners_have_no_order()
-    ensures turned { TurnedShowsTheSame }
-    ensures mirrored { MirroredShowsTheSame }
+    ensures rotation { RotationShowsTheSame }
+    ensures mirror_image { MirrorImageShowsTheSame }
 {}
 
-/// A triangle shows nothing outside of the box of its corners.
+/// A triangle shows nothing outside of the bounds of its corners.
 pub fn triangles_stay_in_their_boxes()
-    ensures { CoversInBox }
+    ensures { CoversInBounds }
 {}
 
 /// A triangle with an area covers its edges.
@@ -35,7 +35,7 @@ pub fn edges_are_covered()
     ensures { CoversEdges }
 {}
 
-/// A triangle's weights have the same sum at each place: what its corners' places span.
+/// A triangle's weights have the same sum at each point: what its corners span.
 pub fn weights_add_up()
     ensures { WeightsAddUp }
 {}
@@ -50,12 +50,12 @@ pub fn unseen_triangles_change_nothing()
     ensures { UnseenChangesNothing }
 {}
 
-/// A pixel has the colour of the fragment with the greatest depth, the first of equal ones.
+/// A pixel has the color that `nearest` names.
 pub fn pixels_show_the_nearest()
     ensures { ShowsFirstNearest }
 {}
 
-/// Each pixel of the picture stands in one of its tiles.
+/// Each pixel of the picture is in one of its tiles.
 pub fn tiles_make_the_picture()
     ensures { TilesMakeThePicture }
 {}

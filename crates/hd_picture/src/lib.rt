@@ -1,23 +1,16 @@
 //! Pictures by a depth buffer: what each pixel of a list of triangles shows.
 //!
 //! The eye looks along falling z. One unit of the world is one pixel, x is right and y is up, and
-//! the eye's own x and y stand in the middle of the picture.
+//! the eye's own x and y are in the middle of the picture.
 #![tactic(auto)]
 
-mod depths;
-mod drawable;
+mod define;
 mod draws;
-mod edges;
-mod faces;
 mod laws;
-mod nearest;
-mod projection;
-mod quotients;
-mod scans;
-mod tiles;
-mod windows;
+mod limits;
+mod raster;
 
-pub use drawable::is_drawable;
+pub use define::pixels::pixel;
 pub use draws::{Draws, WorldTri};
 pub use laws::{
     corners_have_no_order, depths_round_down, depths_stay_between, edges_are_covered,
@@ -25,8 +18,5 @@ pub use laws::{
     triangles_beyond_the_eye_are_unseen, triangles_stay_in_their_boxes,
     unseen_triangles_change_nothing, weights_add_up,
 };
-pub use nearest::pixel;
-pub use tiles::{tile, tile_count};
-
-#[cfg(test)]
-mod tests;
+pub use limits::is_drawable;
+pub use raster::tiles::{tile, tile_count};

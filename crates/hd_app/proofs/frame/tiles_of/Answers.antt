@@ -1,4 +1,4 @@
-use Rattle.hd_picture.specs.Tiling.{tile}
+use Rattle.hd_picture.specs.raster.Tiles.{tile}
 use Rattle.hd_app.proofs.FrameLemmas.{rows_more}
 use Rattle.hd_app.proofs.frame.tiles_of.Goals as goal
 

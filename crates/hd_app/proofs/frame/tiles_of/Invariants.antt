@@ -1,6 +1,6 @@
 use Rattle.std.proofs.Common.{◌≡◌}
 use Rattle.std.specs.List.{range_with_len, flat_map}
-use Rattle.hd_picture.specs.Tiling.{tile}
+use Rattle.hd_picture.specs.raster.Tiles.{tile}
 use Rattle.hd_app.proofs.frame.tiles_of.Given as goal
 
 abbrev pub invariant-tiles : goal.invariant-tiles

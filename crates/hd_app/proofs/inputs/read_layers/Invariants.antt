@@ -1,6 +1,6 @@
 use Rattle.std.proofs.Common.{◌≡◌, ◌+◌, ◌≤◌, map, take, drop, string_bytes, vec_len}
 use Rattle.std.specs.Prelude.{All, IfSome, IsTrue, max}
-use Rattle.hd_usda.specs.WellFormed.{is_layer}
+use Rattle.hd_layer.specs.WellFormed.{is_layer}
 use Rattle.hd_app.specs.Outcomes.{layers_in, byte_limit}
 use Rattle.hd_app.specs.Runs.{SpellLayers}
 use Rattle.hd_app.proofs.InputLemmas.{behind}

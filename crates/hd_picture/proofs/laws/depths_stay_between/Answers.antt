@@ -1,4 +1,4 @@
-use Rattle.hd_picture.proofs.Shades.{depth_between, flat_has_one_depth}
+use Rattle.hd_picture.proofs.DepthTests.{depth_between, flat_has_one_depth}
 use Rattle.hd_picture.proofs.laws.depths_stay_between.Goals as goal
 
 pub returns-clause-between : goal.returns-clause-between

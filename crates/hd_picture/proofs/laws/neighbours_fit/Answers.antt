@@ -1,4 +1,4 @@
-use Rattle.hd_picture.proofs.Neighbours.{neighbours_fit}
+use Rattle.hd_picture.proofs.Neighbors.{neighbours_fit}
 use Rattle.hd_picture.proofs.laws.neighbours_fit.Goals as goal
 
 pub returns : goal.returns

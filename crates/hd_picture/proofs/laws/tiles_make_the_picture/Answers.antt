@@ -1,5 +1,5 @@
-use Rattle.hd_picture.proofs.InTiles.{stands_in_tile}
+use Rattle.hd_picture.proofs.PixelsInTiles.{is_in_tile}
 use Rattle.hd_picture.proofs.laws.tiles_make_the_picture.Goals as goal
 
 pub returns : goal.returns
-returns c = stands_in_tile
+returns c = is_in_tile

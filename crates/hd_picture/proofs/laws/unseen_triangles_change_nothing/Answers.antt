@@ -1,6 +1,6 @@
 use Rattle.std.proofs.Common.{◌∷◌, ◌∙◌, sym}
 use Rattle.std.proofs.lemmas.List.Elements.{filter_map-append}
-use Rattle.hd_picture.specs.Pixels.{fragment}
+use Rattle.hd_picture.specs.define.Pixels.{fragment}
 use Rattle.hd_picture.proofs.laws.unseen_triangles_change_nothing.Goals as goal
 
 pub returns : goal.returns

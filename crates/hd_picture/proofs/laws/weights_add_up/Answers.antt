@@ -1,4 +1,4 @@
-use Rattle.hd_picture.proofs.Neighbours.{weights_add_up}
+use Rattle.hd_picture.proofs.Neighbors.{weights_add_up}
 use Rattle.hd_picture.proofs.laws.weights_add_up.Goals as goal
 
 pub returns : goal.returns

@@ -1,7 +1,0 @@
-use Rattle.std.proofs.Common.{◌≡◌, take}
-use Rattle.hd_picture.specs.Pixels.{fragments, nearest}
-use Rattle.hd_picture.proofs.nearest.pixel.Given as goal
-
--- the nearest of the triangles so far
-abbrev pub invariant-loop-tri : goal.invariant-loop-tri
-invariant-loop-tri l = l.best ≡ nearest (fragments l.draws.eye l.q (take l.tri-index l.tri-items))

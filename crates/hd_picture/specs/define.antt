@@ -1,0 +1,4 @@
+pub mod Coverage
+pub mod Depth
+pub mod Pixels
+pub mod View

@@ -1,0 +1,10 @@
+pub mod Bounds
+pub mod Coverage
+pub mod Depth
+pub mod DepthBuffer
+pub mod DepthFraction
+pub mod EdgeStepping
+pub mod Pixels
+pub mod TriangleSetup
+pub mod View
+pub mod Window
