@@ -1,13 +1,32 @@
 //! The program over the system's files.
 
 use crate::run;
-use hd_io::{FileRack, FileShelf, Shelf, write_file};
+use hd_io::{FileRack, FileShelf, OutsideFault, Shelf, write_file};
 use std::alloc::{AllocError, Global};
 use std::fs;
 use std::test::Fail;
 
-/// A layer with one mesh, which draws nothing.
-const LAYER: &[u8] = b"#usda 1.0\ndef Mesh \"T\" {}\n";
+/// Files, and their bytes.
+const FILES: &[(&str, &[u8])] = &[
+    ("layer.usda", b"#usda 1.0\ndef Mesh \"T\" {}\n"),
+    ("cut.usda", b"#usda 1.0\ndef"),
+    ("script", b"commit\nremove /X\n"),
+];
+
+/// Words, and the number of the status with which the program ends.
+const ENDINGS: &[(&[&str], u8)] = &[
+    (&[], 1),
+    (&["draw", "layer.usda", "picture.ppm"], 0),
+    (&["draw", "cut.usda", "picture.ppm"], 2),
+    (&["step", "layer.usda", "script"], 3),
+    (
+        &["step", "a", "a", "a", "a", "a", "a", "a", "a", "a", "s"],
+        4,
+    ),
+    (&["draw", "missing", "picture.ppm"], 5),
+    (&["step", "layer.usda", "missing"], 5),
+    (&["draw", "layer.usda", "no/such/folder"], 6),
+];
 
 fn words_of(alloc: Global, words: &[&str]) -> Result<Vec<String>, AllocError> {
     let mut all = Vec::new(alloc);
@@ -17,36 +36,45 @@ fn words_of(alloc: Global, words: &[&str]) -> Result<Vec<String>, AllocError> {
     Ok(all)
 }
 
-#[test]
-fn the_program_ends_with_the_number_of_its_status(rt: HostRuntime) -> Result<(), Fail> {
-    let alloc = rt.alloc();
+fn write_files(rt: HostRuntime) -> Result<(), OutsideFault> {
     let mut rack = FileRack::new(rt);
-    write_file(&mut rack, "layer.usda", LAYER)?;
-    write_file(&mut rack, "cut.usda", b"#usda 1.0\ndef")?;
-    write_file(&mut rack, "script", b"commit\nremove /X\n")?;
-    let table: [(&[&str], u8); 8] = [
-        (&[], 1),
-        (&["draw", "layer.usda", "picture.ppm"], 0),
-        (&["draw", "cut.usda", "picture.ppm"], 2),
-        (&["step", "layer.usda", "script"], 3),
-        (
-            &["step", "a", "a", "a", "a", "a", "a", "a", "a", "a", "s"],
-            4,
-        ),
-        (&["draw", "missing", "picture.ppm"], 5),
-        (&["step", "layer.usda", "missing"], 5),
-        (&["draw", "layer.usda", "no/such/folder"], 6),
-    ];
-    for (words, number) in table {
-        assert_eq!(rt; run(rt, &words_of(alloc, words)?).number(), number);
+    for (name, bytes) in FILES {
+        write_file(&mut rack, name, bytes)?;
     }
-    let mut shelf = FileShelf::new(rt, alloc);
-    shelf.open("picture.ppm")?;
+    Ok(())
+}
+
+/// The number of the first command line that ends with another status, or how many there are.
+fn first_wrong_ending(rt: HostRuntime) -> Result<usize, AllocError> {
+    for (place, (words, number)) in ENDINGS.iter().enumerate() {
+        if run(rt, &words_of(rt.alloc(), words)?).number() != *number {
+            return Ok(place);
+        }
+    }
+    Ok(ENDINGS.len())
+}
+
+/// Whether the picture that was drawn begins as a picture of 64 by 64 pixels.
+fn is_picture(rt: HostRuntime) -> Result<bool, OutsideFault> {
+    let mut shelf = FileShelf::new(rt, rt.alloc());
     let mut head = [0; 13];
-    assert_eq!(rt; shelf.read(&mut head)?, 13);
-    assert_eq!(rt; head.as_slice(), b"P6\n64 64\n255\n".as_slice());
+    shelf.open("picture.ppm")?;
+    Ok(shelf.read(&mut head)? == 13 && head.as_slice() == b"P6\n64 64\n255\n".as_slice())
+}
+
+/// The first wrong ending, one more than all where the picture is wrong, and else how many endings there are.
+fn first_wrong(rt: HostRuntime) -> Result<usize, Fail> {
+    write_files(rt)?;
+    let wrong = first_wrong_ending(rt)?;
+    let is_picture = is_picture(rt)?;
     for name in ["layer.usda", "cut.usda", "script", "picture.ppm"] {
         fs::remove_file(&rt, name)?;
     }
+    Ok(if is_picture { wrong } else { ENDINGS.len() + 1 })
+}
+
+#[test]
+fn the_program_ends_with_the_number_of_its_status(rt: HostRuntime) -> Result<(), Fail> {
+    assert!(rt; first_wrong(rt)? == ENDINGS.len());
     Ok(())
 }

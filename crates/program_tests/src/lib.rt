@@ -1,0 +1,8 @@
+//! Tests of the program's crates over their public calls, of what no case of `program_cases` can show: copies, and
+//! files too large to lie in a folder.
+#![tactic(auto)]
+
+#[cfg(test)]
+mod copies;
+#[cfg(test)]
+mod limits;

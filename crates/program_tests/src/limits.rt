@@ -1,0 +1,119 @@
+//! Files at the limits of their bytes and prims, which are too large to lie in a folder.
+
+ghost use Rattle.std.specs.Prelude.{◌≡◌, ◌≢◌, false, All, AllPairs, string_bytes};
+
+use hd_app::top_plain;
+use hd_io::{MemoryRack, MemoryShelf, MemorySink};
+use std::alloc::{AllocError, Global};
+
+/// More than any call moves here.
+const AMPLE: usize = 1 << 24;
+
+/// The bytes that a file may have.
+const MOST_BYTES: usize = 1_048_576;
+
+fn is_among(files: &[(String, Vec<u8>)], name: &str) -> bool
+    ensures { result ≡ false → All (λ file. string_bytes file.0 ≢ name.now) files.now }
+{
+    files.iter().any(|file| file.0.as_str() == name)
+}
+
+/// Adds a file, but where there is one of its name.
+fn put(
+    alloc: Global,
+    files: &mut Vec<(String, Vec<u8>)>,
+    name: &str,
+    text: &[u8],
+) -> Result<(), AllocError>
+    requires { AllPairs (λ one other. string_bytes one.0 ≢ string_bytes other.0) files.old.items }
+    ensures { AllPairs (λ one other. string_bytes one.0 ≢ string_bytes other.0) files.new.items }
+{
+    if is_among(files, name) {
+        return Ok(());
+    }
+    files.push((
+        String::from_str(alloc, name)?,
+        Vec::from_slice(alloc, text)?,
+    ))?;
+    Ok(())
+}
+
+/// The files of a run: a layer and a script.
+fn shelf_of(alloc: Global, layer: &[u8], script: &[u8]) -> Result<MemoryShelf, AllocError> {
+    let mut files = Vec::new(alloc);
+    put(alloc, &mut files, "layer", layer)?;
+    put(alloc, &mut files, "script", script)?;
+    Ok(MemoryShelf::new(alloc, files, Vec::new(alloc), AMPLE))
+}
+
+/// The words that ask for the steps of the script over the layer.
+fn step_words(alloc: Global) -> Result<Vec<String>, AllocError> {
+    let command = String::from_str(alloc, "step")?;
+    let layer = String::from_str(alloc, "layer")?;
+    let script = String::from_str(alloc, "script")?;
+    Ok(vec![in alloc; command, layer, script]?)
+}
+
+/// Whether the steps of a script over a layer end with this status and write these lines.
+fn ends(
+    alloc: Global,
+    layer: &[u8],
+    script: &[u8],
+    status: u8,
+    lines: &[u8],
+) -> Result<bool, AllocError> {
+    let words = step_words(alloc)?;
+    let mut shelf = shelf_of(alloc, layer, script)?;
+    let mut rack = MemoryRack::new(alloc, Vec::new(alloc), AMPLE);
+    let mut out = MemorySink::new(alloc, Vec::new(alloc), AMPLE);
+    let ending = top_plain(alloc, &words, &mut shelf, &mut rack, &mut out);
+    Ok(ending.number() == status && out.bytes() == lines)
+}
+
+/// A text of so many bytes that is a layer without prims and a script without commands.
+fn blank(alloc: Global, len: usize) -> Result<Vec<u8>, AllocError> {
+    let mut text = Vec::from_slice(alloc, b"#usda 1.0".as_slice())?;
+    text.resize(len, b' ')?;
+    Ok(text)
+}
+
+/// Whether a layer and a script have 1,048,576 bytes at most.
+fn byte_limit_holds(alloc: Global) -> Result<bool, AllocError> {
+    let full = blank(alloc, MOST_BYTES)?;
+    let past = blank(alloc, MOST_BYTES + 1)?;
+    let layer = b"fault limit bytes 1048576 at layer\n".as_slice();
+    let script = b"fault limit bytes 1048576 at script\n".as_slice();
+    Ok(
+        ends(alloc, &full, &full, 0, b"".as_slice())?
+            && ends(alloc, &full, &past, 4, script)?
+            && ends(alloc, &past, &past, 4, layer)?,
+    )
+}
+
+#[test]
+fn each_file_may_have_1048576_bytes(rt: HostRuntime) {
+    assert!(rt; byte_limit_holds(rt.alloc()) == Ok(true));
+}
+
+/// A layer of 65,535 prims, in the order of their names.
+fn almost_full_layer(alloc: Global) -> Result<Vec<u8>, AllocError> {
+    let mut text = Vec::from_slice(alloc, b"#usda 1.0\n".as_slice())?;
+    for number in 0..65_535_u32 {
+        let prim = format!(in alloc; "def\"p{number:05}\"{{}}")?;
+        text.extend_from_slice(prim.as_bytes())?;
+    }
+    Ok(text)
+}
+
+/// Whether an edit adds the last prim that a layer may have, and a later one is refused.
+fn edits_are_counted(alloc: Global) -> Result<bool, AllocError> {
+    let layer = almost_full_layer(alloc)?;
+    let script = b"def Mesh /a\n\ndef Mesh /p00000\ndef Mesh /b\n".as_slice();
+    let lines = b"fault limit prims 65536 at script line 4\n".as_slice();
+    ends(alloc, &layer, script, 4, lines)
+}
+
+#[test]
+fn an_edit_leaves_at_most_65536_prims(rt: HostRuntime) {
+    assert!(rt; edits_are_counted(rt.alloc()) == Ok(true));
+}
