@@ -1,9 +1,10 @@
 -- Acts that are broken off, the first of them not begun or a line.
 use Rattle.std.proofs.Common.{◌≡◌, ℕ, List, [], ◌∷◌, ◌++◌, take, Option, Some, None, refl, sym, ap, inl, inr, append-nil}
 use Rattle.std.specs.Option.{option_map}
-use Rattle.hd_io.specs.Files.{FileList}
+use Rattle.hd_io.specs.Rack.{RackState}
+use Rattle.hd_io.specs.Sink.{SinkState}
 use Rattle.hd_io.specs.Writing.{CutLine}
-use Rattle.hd_io.specs.Acts.{Act, file, line, Cut, Outside, outside, Adds, WroteCut}
+use Rattle.hd_io.specs.Acts.{Act, file, line, Cut, Outside, Adds, WroteCut}
 
 -- nothing was added
 pub nothing_added : {A : Type 0} (held : Option (List A)) → held ≡ option_map (λ (xs : List A). xs ++ []) held
@@ -18,13 +19,14 @@ cut_nothing (line bytes ∷ acts) = inl (refl, refl)
 
 -- an outside that stays as it is has no file and no text more
 pub adds_nothing : (o : Outside) → Adds [] [] o o
-adds_nothing o = record { files_added = nothing_added o.files; text_added = nothing_added o.text }
+adds_nothing o = record { files_added = nothing_added o.rack.files; text_added = nothing_added o.sink.text }
 
 -- and acts were broken off before the first of them
 pub none_written : (acts : List Act) (o : Outside) → WroteCut acts o o
 none_written acts o = ([], [], cut_nothing acts, adds_nothing o)
 
 -- a line alone was cut short
-pub only_line_cut : (text : List ℕ) (files : Option FileList) (held now : Option (List ℕ)) (f g h : ℕ) → CutLine text held now → WroteCut (line text ∷ []) (outside files f held g) (outside files f now h)
-only_line_cut text files held now f g h cut =
-    ([], take cut.0 text, inr (inl (cut.0, cut.1, refl, refl)), record { files_added = nothing_added files; text_added = cut.2 })
+pub only_line_cut : (text : List ℕ) (rack : RackState) (before now : SinkState) → CutLine text before.text now.text
+    → WroteCut (line text ∷ []) (record { rack = rack; sink = before }) (record { rack = rack; sink = now })
+only_line_cut text rack before now cut =
+    ([], take cut.0 text, inr (inl (cut.0, cut.1, refl, refl)), record { files_added = nothing_added rack.files; text_added = cut.2 })

@@ -5,7 +5,7 @@ use Rattle.hd_io.specs.Files.{FileList, with_file, with_bytes}
 use Rattle.hd_io.proofs.WholeFiles.{with_bytes-nil, with_bytes-with_bytes, with_bytes-with_file}
 use Rattle.hd_io.specs.Writing.{with_line, with_whole, CutBytes, CutFile}
 
--- the next piece goes behind those that were written
+-- the next piece goes after those that were written
 pub line_more : (line : List ℕ) (m n : ℕ) (held : Option (List ℕ))
     → option_map (λ (bytes : List ℕ). bytes ++ take n (drop m line)) (with_line (take m line) held) ≡ with_line (take (m + n) line) held
 line_more line m n None = refl

@@ -1,10 +1,10 @@
 -- Files as names with bytes, in an order or by their names.
-use Rattle.std.specs.Prelude.{ℕ, List, [], ◌∷◌, ◌++◌, map, Option, String, Vec, string_bytes}
+use Rattle.std.specs.Prelude.{ℕ, List, [], ◌∷◌, ◌++◌, map, Option, string_bytes}
 use Rattle.std.specs.Option.{option_and_then}
 use Rattle.std.specs.Ordering.{nat_cmp}
 use Rattle.std.specs.Cmp.Lexicographic.{slice_cmp}
 use Rattle.std.specs.FinMap.{FinMap, from_entries, get}
-use Rattle.std.specs.declared.alloc.Global.{Global}
+use Rattle.hd_io.specs.declared.memory.file.MemoryFile.{MemoryFile}
 
 -- files in an order, each a name with its bytes
 abbrev pub FileList : Type 0
@@ -27,8 +27,8 @@ abbrev pub open_bytes : FileMap → Option (List ℕ) → Option (List ℕ)
 open_bytes files opened = option_and_then (bytes_of files) opened
 
 -- the files of a program's list
-abbrev pub file_list : List (String Global × Vec ℕ Global) → FileList
-file_list files = map (λ file. (string_bytes file.0, file.1.items)) files
+abbrev pub file_list : List MemoryFile → FileList
+file_list files = map (λ file. (string_bytes file.name, file.bytes.items)) files
 
 -- the files with one more of this name, which is empty
 abbrev pub with_file : List ℕ → FileList → FileList

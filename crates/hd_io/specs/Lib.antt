@@ -6,6 +6,9 @@ pub mod Memory
 pub mod MemoryRack
 pub mod MemoryShelf
 pub mod MemorySink
+pub mod Offers
+pub mod Rack
 pub mod Real
 pub mod Shelf
+pub mod Sink
 pub mod Writing

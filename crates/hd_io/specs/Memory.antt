@@ -13,8 +13,8 @@ abbrev pub first_call : List ℕ → ℕ → CallPlan
 first_call failing piece = record { next = 0; failing = failing; piece = piece }
 
 -- one more call was made
-abbrev pub counted : CallPlan → CallPlan
-counted plan = record { next = min (plan.next + 1) (2 ^ 64 - 1); failing = plan.failing; piece = plan.piece }
+abbrev pub count_call : CallPlan → CallPlan
+count_call plan = record { next = min (plan.next + 1) (2 ^ 64 - 1); failing = plan.failing; piece = plan.piece }
 
 -- the next call is one of those that fail
 abbrev pub IsDue : CallPlan → Type 0
@@ -22,5 +22,5 @@ IsDue plan = Contains plan.failing plan.next
 
 -- the call is counted, and is `Ok` only where it is not one of those that fail
 pub record KeepsToPlan {T : Type 0} (before now : CallPlan) (result : Result T OutsideFault) : Type 0 where
-  pub counts : now ≡ counted before
+  pub counts : now ≡ count_call before
   pub ok : OnOk result (¬ IsDue before)

@@ -3,6 +3,7 @@ use Rattle.std.specs.Prelude.{◌≡◌, ◌≤◌, ℕ, List, length, Option, N
 use Rattle.std.specs.Option.{option_map, option_and_then}
 use Rattle.hd_io.specs.Files.{FileList, file_map, bytes_of}
 use Rattle.hd_io.specs.Memory.{CallPlan}
+use Rattle.hd_io.specs.Shelf.{ShelfState}
 
 -- what a shelf in memory holds, and how its calls go
 pub record MemoryShelfState : Type 0 where
@@ -12,6 +13,10 @@ pub record MemoryShelfState : Type 0 where
   pub faults : ℕ
   pub failed : Option (List ℕ)
   pub calls : CallPlan
+
+-- what it says of itself: all
+abbrev pub shelf_state : MemoryShelfState → ShelfState
+shelf_state shelf = record { files = Some (file_map shelf.files); opened = shelf.opened; taken = shelf.taken; faults = shelf.faults; failed = shelf.failed }
 
 -- the name of the file at an index
 abbrev pub name_at : FileList → Option ℕ → Option (List ℕ)

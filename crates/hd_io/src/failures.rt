@@ -1,9 +1,7 @@
 //! What a shelf keeps of its failed calls.
 
-ghost use Rattle.std.specs.Prelude.{◌≡◌, Some, None, Err, IsErr, string_bytes};
-ghost use Rattle.hd_io.specs.Causes.{HasCause};
-ghost use Rattle.hd_io.specs.Failures.{failed_name};
-ghost use Rattle.hd_io.specs.Shelf.{NamesFailure};
+ghost use Rattle.std.specs.Prelude.{◌≡◌, None, Err, IsErr, IsErrOf, string_bytes};
+ghost use Rattle.hd_io.specs.Failures.{failed_name, Notes, NotesNothing};
 
 use crate::OutsideFault;
 use std::alloc::Global;
@@ -31,8 +29,7 @@ impl Failures {
     /// The answer to a call that failed and concerned this name.
     pub(crate) fn note<T>(&mut self, name: String) -> Result<T, OutsideFault>
         ensures answer { result ≡ Err OutsideFault.Failed }
-        ensures failed { failed_name self.new ≡ Some (string_bytes name) }
-        ensures cause { HasCause self.old.count self.new.count result }
+        ensures noted { Notes (string_bytes name) self.old self.new }
     {
         self.name = Some(name);
         self.count = self.count.saturating_add(1);
@@ -42,8 +39,8 @@ impl Failures {
     /// The same, where the name is yet to be copied; without memory for it, nothing is noted.
     pub(crate) fn fail<T>(&mut self, name: &str) -> Result<T, OutsideFault>
         ensures err { IsErr result }
-        ensures failed { NamesFailure (Some name.now) (failed_name self.old) (failed_name self.new) result }
-        ensures cause { HasCause self.old.count self.new.count result }
+        ensures noted { IsErrOf result OutsideFault.Failed → Notes name.now self.old self.new }
+        ensures no_memory { IsErrOf result OutsideFault.NoMemory → NotesNothing self.old self.new }
     {
         match String::from_str(self.alloc, name) {
             Ok(name) => self.note(name),

@@ -11,7 +11,7 @@ mod sink;
 mod writing;
 
 pub use fault::OutsideFault;
-pub use memory::{MemoryRack, MemoryShelf, MemorySink};
+pub use memory::{MemoryFile, MemoryRack, MemoryShelf, MemorySink};
 pub use rack::Rack;
 pub use real::{FileRack, FileShelf, OutSink};
 pub use shelf::Shelf;

@@ -1,8 +1,8 @@
 //! The forms over the system.
 
-ghost use Rattle.std.specs.Prelude.{◌≤◌, length, take, MatchOption, IfSome, IfOk};
+ghost use Rattle.std.specs.Prelude.{◌≡◌, ◌≤◌, length, take, MatchOption, IfSome, IfOk, IfErr, OnOk, OnErr};
 ghost use Rattle.std.specs.Io.KnownBytes.{Keeps, Appends, ReadConsumes, WriteAppends};
-ghost use Rattle.hd_io.specs.Causes.{HasCause};
+ghost use Rattle.hd_io.specs.Causes.{Rose};
 
 mod rack;
 mod shelf;
@@ -53,7 +53,9 @@ fn write_some<W: Write>(writer: &mut W, piece: &[u8]) -> Option<usize>
 fn offer<W: Write>(writer: &mut W, piece: &[u8], faults: &mut u64) -> Result<usize, OutsideFault>
     ensures count { IfOk result (λ n. (1 ≤ n) × (n ≤ length piece.now)) }
     ensures bytes { WriteAppends (W.contents writer.old) (W.contents writer.new) result piece.now }
-    ensures cause { HasCause faults.old faults.new result }
+    ensures failed { IfErr result (λ fault. fault ≡ OutsideFault.Failed) }
+    ensures kept { OnOk result (faults.new ≡ faults.old) }
+    ensures counted { OnErr result (Rose faults.old faults.new) }
 {
     match write_some(writer, piece) {
         Some(count) => Ok(count),

@@ -2,7 +2,7 @@
 use Rattle.std.proofs.Common.{◌≡◌, ℕ, zero, suc, ◌^◌, ◌≤◌, List, [], ◌∷◌, Bool, true, false, ◌&&◌, length, refl, arith, ℤ, get_or, unsigned_abs, IsTrue, Some, None, if◌then◌else◌, w64, lit<}
 use Rattle.std.proofs.lemmas.Int.{to_z-of_z}
 use Rattle.std.specs.List.{list_all}
-use Rattle.hd_num.specs.Matrices.{Rows, column_of, entry, is_within, in_range, bounded}
+use Rattle.hd_num.specs.Matrices.{Rows, column_of, entry, is_within, in_range, if_in_range}
 use Rattle.hd_num.proofs.Sizes.{size_at, kept, fits_up_to}
 
 rows_within : (m : Rows) (i : ℕ) → IsTrue (list_all (list_all (is_within (2 ^ 30))) m) → IsTrue (list_all (is_within (2 ^ 30)) (get_or m i []))
@@ -17,8 +17,8 @@ row_within m i h = rows_within m i h
 pub entry_size : (m : Rows) (i j : ℕ) → IsTrue (in_range m) → unsigned_abs (entry m i j) ≤ 2 ^ 30
 entry_size m i j h = size_at (2 ^ 30) (get_or m i []) j (row_within m i h)
 
-pub bounded-in_range : (m : Rows) → IsTrue (in_range m) → Some m ≡ bounded m
-unfolding bounded
+pub bounded-in_range : (m : Rows) → IsTrue (in_range m) → Some m ≡ if_in_range m
+unfolding if_in_range
 bounded-in_range m h = rw h refl
 
 -- an entry as the code keeps it, in bits
@@ -32,8 +32,8 @@ some_of_test : (b : Bool) (m x : Rows) → Some x ≡ (if b then Some m else Non
 some_of_test true m x e = cc
 some_of_test false m x e = cc
 
-pub bounded-some : (m x : Rows) → Some x ≡ bounded m → x ≡ m
-unfolding bounded
+pub bounded-some : (m x : Rows) → Some x ≡ if_in_range m → x ≡ m
+unfolding if_in_range
 bounded-some m x e = some_of_test (in_range m) m x e
 
 -- a column as the code keeps it, in bits

@@ -1,4 +1,4 @@
--- Points are rows of four numbers, the fourth of them 1, and a matrix stands to their right. A matrix is kept as four rows of three numbers, the fourth row being the translation. Its fourth column is 0, 0, 0, 1 and isn't kept.
+-- Points are rows of four numbers, the fourth of them 1, and a matrix is to their right. A matrix is kept as four rows of three numbers, the fourth row being the translation. Its fourth column is 0, 0, 0, 1 and isn't kept.
 use Rattle.std.specs.Prelude.{◌≡◌, ℕ, zero, suc, ◌^◌, ◌==◌, Bool, if◌then◌else◌, ℤ, pos, ◌+ℤ◌, ◌*ℤ◌, unsigned_abs, List, [], ◌∷◌, slice_index_or, nat_le, IsTrue, Option, Some, None}
 use Rattle.std.specs.List.{list_all}
 
@@ -19,8 +19,8 @@ abbrev pub with_last : List ℤ → ℤ → ℕ → ℤ
 with_last row last k = if k == 3 then last else slice_index_or row k (pos 0)
 
 -- a row of a matrix with its number in the fourth column
-abbrev pub extended : Rows → ℕ → ℕ → ℤ
-extended m row = with_last (slice_index_or m row []) (if row == 3 then pos 1 else pos 0)
+abbrev pub affine_entry : Rows → ℕ → ℕ → ℤ
+affine_entry m row = with_last (slice_index_or m row []) (if row == 3 then pos 1 else pos 0)
 
 -- f 0 + .. + f (n - 1)
 abbrev pub sum_below : ℕ → (ℕ → ℤ) → ℤ
@@ -45,7 +45,7 @@ identity = table (λ row column. if row == column then pos 1 else pos 0)
 
 -- a times b, which moves a point by a and then by b
 unfoldable pub product : Rows → Rows → Rows
-product a b = table (λ row. row_times (extended a row) b)
+product a b = table (λ row. row_times (affine_entry a row) b)
 
 -- the number is from -bound to bound
 abbrev pub is_within : ℕ → ℤ → Bool
@@ -56,8 +56,8 @@ unfoldable pub in_range : Rows → Bool
 in_range m = list_all (list_all (is_within (2 ^ 30))) m
 
 -- the matrix, and none where it is out of range
-unfoldable pub bounded : Rows → Option Rows
-bounded m = if in_range m then Some m else None
+unfoldable pub if_in_range : Rows → Option Rows
+if_in_range m = if in_range m then Some m else None
 
 -- four rows of three numbers
 abbrev pub IsShaped : Rows → Type 0

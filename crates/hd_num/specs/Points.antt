@@ -21,13 +21,13 @@ abbrev pub coordinate : Vec3 → ℕ → ℤ
 coordinate p = with_last (components p) (pos 1)
 
 -- the point times the matrix
-unfoldable pub moved : Vec3 → Rows → Vec3
-moved p m = point_of (three (row_times (coordinate p) m))
+unfoldable pub transform_point : Vec3 → Rows → Vec3
+transform_point p m = point_of (three (row_times (coordinate p) m))
 
 -- each component is from -2^30 to 2^30
 abbrev pub point_in_range : Vec3 → Bool
 point_in_range p = list_all (is_within (2 ^ 30)) (components p)
 
 -- the point, and none where it is out of range
-unfoldable pub bounded_point : Vec3 → Option Vec3
-bounded_point p = if point_in_range p then Some p else None
+unfoldable pub if_point_in_range : Vec3 → Option Vec3
+if_point_in_range p = if point_in_range p then Some p else None

@@ -2,8 +2,8 @@
 
 ghost use Rattle.std.specs.Prelude.{◌≡◌, ◌<◌, ◌%◌, ◌^◌, ◌*ℤ◌, IfSome, IsTrue, if◌then◌else◌, pos, slice_index_or};
 ghost use Rattle.std.specs.List.{list_all};
-ghost use Rattle.hd_num.specs.Matrices.{IsMatrix, bounded, column_of, entry, identity, in_range, is_within, product, row_times, sum_below, table, three, with_last};
-ghost use Rattle.hd_num.specs.Points.{bounded_point, moved, point_in_range, point_of};
+ghost use Rattle.hd_num.specs.Matrices.{IsMatrix, if_in_range, column_of, entry, identity, in_range, is_within, product, row_times, sum_below, table, three, with_last};
+ghost use Rattle.hd_num.specs.Points.{if_point_in_range, transform_point, point_in_range, point_of};
 ghost use Rattle.hd_num.specs.Turns.{cosine, sine, turns};
 
 use crate::axis::Axis;
@@ -18,7 +18,7 @@ const NARROW_LIMIT: u64 = 1 << 31;
 
 /// A matrix that moves points: four rows of three numbers, each from -2^30 to 2^30.
 ///
-/// A point is a row, and the matrix stands to its right. The fourth row is the translation.
+/// A point is a row, and the matrix is to its right. The fourth row is the translation.
 #[derive(Clone, Copy, Debug, PartialEq, Eq)]
 pub struct Matrix {
     rows: [[i64; 3]; 4],
@@ -48,7 +48,7 @@ impl Matrix {
 
     /// The matrix with these rows, or `None` where a number is outside -2^30 to 2^30.
     pub fn of_rows(rows: [[i64; 3]; 4]) -> Option<Matrix>
-        ensures { result ≡ bounded rows }
+        ensures { result ≡ if_in_range rows }
     {
         if is_in_range(&rows) {
             Some(Matrix { rows })
@@ -74,8 +74,8 @@ impl Matrix {
 
     /// The matrix, which is in range as each matrix is.
     #[inline]
-    pub(crate) fn bounded(self) -> Option<Matrix>
-        ensures { result ≡ bounded self }
+    pub(crate) fn if_in_range(self) -> Option<Matrix>
+        ensures { result ≡ if_in_range self }
     {
         let rows = self.rows;
         Some(Matrix { rows })
@@ -95,7 +95,7 @@ impl Matrix {
     /// The matrix that moves a point first by `self` and then by `next`, or `None` where a
     /// number of it is outside -2^30 to 2^30.
     pub fn compose(&self, next: &Matrix) -> Option<Matrix>
-        ensures { result ≡ bounded (product self.now next.now) }
+        ensures { result ≡ if_in_range (product self.now next.now) }
     {
         let [x, y, z, origin] = self.rows;
         Matrix::of_rows([
@@ -108,7 +108,7 @@ impl Matrix {
 
     /// Where the matrix moves a point, or `None` where a component is outside -2^30 to 2^30.
     pub fn apply(&self, p: Vec3) -> Option<Vec3>
-        ensures exact { result ≡ bounded_point (moved p self.now) }
+        ensures exact { result ≡ if_point_in_range (transform_point p self.now) }
         ensures within { IfSome result (λ image. IsTrue (point_in_range image)) }
     {
         let row = [p.x, p.y, p.z];
@@ -122,7 +122,7 @@ impl Matrix {
     /// Where the matrix moves a point of any size, as `apply` answers it.
     #[cold]
     fn apply_wide(&self, row: [i64; 3]) -> Option<Vec3>
-        ensures { result ≡ bounded_point (point_of (three (row_times (with_last row (pos 1)) self.now))) }
+        ensures { result ≡ if_point_in_range (point_of (three (row_times (with_last row (pos 1)) self.now))) }
     {
         Some(Vec3 {
             x: self.wide_component(row, 0)?,
@@ -209,7 +209,7 @@ fn wide_dot(row: [i64; 3], column: [i64; 4]) -> i128
 /// The point with these coordinates, or `None` where one is outside -2^30 to 2^30.
 #[inline]
 fn point_in_range(row: [i64; 3]) -> Option<Vec3>
-    ensures { result ≡ bounded_point (point_of row) }
+    ensures { result ≡ if_point_in_range (point_of row) }
 {
     if is_row_within(&row, LIMIT) {
         let [x, y, z] = row;

@@ -1,7 +1,7 @@
 //! Transform ops, each of which is a matrix.
 
 ghost use Rattle.std.specs.Prelude.{◌≡◌};
-ghost use Rattle.hd_num.specs.Matrices.{bounded};
+ghost use Rattle.hd_num.specs.Matrices.{if_in_range};
 ghost use Rattle.hd_num.specs.Ops.{op_matrix};
 
 use crate::axis::Axis;
@@ -30,7 +30,7 @@ pub enum Op {
 impl Op {
     /// The matrix of the op, or `None` where a number of it is outside -2^30 to 2^30.
     pub fn matrix(&self) -> Option<Matrix>
-        ensures { result ≡ bounded (op_matrix self.now) }
+        ensures { result ≡ if_in_range (op_matrix self.now) }
     {
         match *self {
             Op::Translate(v) => {
@@ -41,7 +41,7 @@ impl Op {
             Op::RotateXyz(x, y, z) => Matrix::quarter_turn(Axis::X, x)
                 .compose(&Matrix::quarter_turn(Axis::Y, y))?
                 .compose(&Matrix::quarter_turn(Axis::Z, z)),
-            Op::Transform(matrix) => matrix.bounded(),
+            Op::Transform(matrix) => matrix.if_in_range(),
         }
     }
 }

@@ -6,7 +6,8 @@ use Rattle.std.proofs.lemmas.List.Elements.{All-head, All-tail}
 use Rattle.std.proofs.lemmas.List.Sums.{prefix_len-le-length}
 use Rattle.std.specs.Prelude.{All}
 use Rattle.std.specs.List.{list_all, prefix_len}
-use Rattle.hd_path.specs.Names.{is_letter, is_word, is_identifier, identifier_len, IsName}
+use Rattle.hd_path.specs.Paths.{Path}
+use Rattle.hd_path.specs.Names.{Name, is_letter, is_word, is_identifier, identifier_len, IsName}
 use Rattle.hd_path.specs.Parsing.{is_slash}
 
 pub word_range : (b : ℕ) → is_word b ≡ true → (47 < b) × (b < 128)
@@ -20,7 +21,7 @@ abbrev pub Plain : List ℕ → Type 0
 Plain [] = Unit {0}
 Plain (b ∷ bs) = (47 < b) × (b < 128) × Plain bs
 
-abbrev pub AllPlain : List (List ℕ) → Type 0
+abbrev pub AllPlain : List Name → Type 0
 AllPlain [] = Unit {0}
 AllPlain (name ∷ names) = Plain name × AllPlain names
 
@@ -51,7 +52,7 @@ all_words (b ∷ bs) h =
 pub name_plain : (name : List ℕ) → IsName name → Plain name
 name_plain name h = words_plain name (all_words name h.identifier)
 
-pub names_plain : (names : List (List ℕ)) → All IsName names → AllPlain names
+pub names_plain : (names : Path) → All IsName names → AllPlain names
 names_plain [] h = tt
 names_plain (name ∷ names) h =
     (name_plain name (All-head IsName name names h), names_plain names (All-tail IsName name names h))

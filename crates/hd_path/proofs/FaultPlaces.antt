@@ -12,7 +12,7 @@ use Rattle.hd_path.specs.declared.fault.PathFault.TheVariants.{Syntax, TooDeep, 
 use Rattle.hd_path.specs.Laws.{StopsAt, IsTextOfNames, FaultIsWhereNoPathGoesOn, ChildFaultIsWhereNoNameGoesOn}
 use Rattle.hd_path.specs.Names.{Name, is_letter, is_word, is_identifier, identifier_len, IsName}
 use Rattle.hd_path.specs.Parsing.{is_slash, pieces, name_at, before_names, names_at}
-use Rattle.hd_path.specs.Paths.{Path, slashed, path_text}
+use Rattle.hd_path.specs.Paths.{Path, names_text, path_text}
 use Rattle.hd_path.proofs.Bytes.{first_of_and, second_of_and, letter_is_word, all_words, identifier_len-append}
 use Rattle.hd_path.proofs.Slashes.{is_slash_is, slashed-pieces}
 use Rattle.hd_path.proofs.Spelling.{name_at-Ok}
@@ -30,11 +30,11 @@ abbrev NoSlash : List ℕ → Type 0
 NoSlash [] = Unit {0}
 NoSlash (b ∷ bs) = (is_slash b ≡ false) × NoSlash bs
 
-abbrev AllNoSlash : List (List ℕ) → Type 0
+abbrev AllNoSlash : List Name → Type 0
 AllNoSlash [] = Unit {0}
 AllNoSlash (p ∷ ps) = NoSlash p × AllNoSlash ps
 
-onto_first-no_slash : (b : ℕ) (ps : List (List ℕ)) → is_slash b ≡ false → AllNoSlash ps → AllNoSlash (onto_first b ps)
+onto_first-no_slash : (b : ℕ) (ps : List Name) → is_slash b ≡ false → AllNoSlash ps → AllNoSlash (onto_first b ps)
 onto_first-no_slash b [] e h = ((e, tt), tt)
 onto_first-no_slash b (p ∷ ps) e h = ((e, h.0), h.1)
 
@@ -50,7 +50,7 @@ no_slash-rest : (xs ys : List ℕ) → NoSlash (xs ++ ys) → NoSlash ys
 no_slash-rest [] ys h = h
 no_slash-rest (x ∷ xs) ys h = no_slash-rest xs ys h.1
 
-slashed-NoWord : (names : Path) → NoWord (slashed names)
+slashed-NoWord : (names : Path) → NoWord (names_text names)
 slashed-NoWord [] = tt
 slashed-NoWord (name ∷ names) = refl
 
@@ -110,26 +110,26 @@ record IsTail (text : List ℕ) : Type 0 where
   names : Path
   first : IsName name
   others : All IsName names
-  same : name ++ slashed names ≡ text
+  same : name ++ names_text names ≡ text
 
 fault_none : (text : List ℕ) → NoLetter text → StopsAt IsTail text 0
 fault_none text s = record {
   begins = (65 ∷ [], record { name = 65 ∷ []; names = []; first = record { identifier = refl; short = omega arith }; others = All-nil IsName; same = refl }, refl);
-  no_further = λ b. let tail = b.1 in no_letter text tail.name (slashed tail.names) s tail.first.identifier (b.2 ∙ ap (take 1) (sym tail.same));
+  no_further = λ b. let tail = b.1 in no_letter text tail.name (names_text tail.names) s tail.first.identifier (b.2 ∙ ap (take 1) (sym tail.same));
 }
 
-other_than_slash : (c : ℕ) (y : List ℕ) (names : Path) → is_slash c ≡ false → take 1 (c ∷ y) ≡ take 1 (slashed names) → ⊥
+other_than_slash : (c : ℕ) (y : List ℕ) (names : Path) → is_slash c ≡ false → take 1 (c ∷ y) ≡ take 1 (names_text names) → ⊥
 other_than_slash c y [] s e = cc
 other_than_slash c y (name ∷ names) s e = let same : 47 ≡ c = cc in false≢true (sym s ∙ subst (λ d. is_slash d ≡ true) same refl)
 
 module _ (x : Name) (named : IsName x) where
   -- the texts from the name of the other on
-  after_name : (y whole : List ℕ) (k m : ℕ) → m ≡ suc (length x + k) → NoWord y → (tail : IsTail whole) → take m (x ++ y) ≡ take m whole → take (suc k) y ≡ take (suc k) (slashed tail.names)
+  after_name : (y whole : List ℕ) (k m : ℕ) → m ≡ suc (length x + k) → NoWord y → (tail : IsTail whole) → take m (x ++ y) ≡ take m whole → take (suc k) y ≡ take (suc k) (names_text tail.names)
   after_name y whole k m size s tail e =
       let r : m ≡ reach x k = size ∙ sym (reach-is x k) in
-      let alike : take (reach x k) (x ++ y) ≡ take (reach x k) (tail.name ++ slashed tail.names) =
-      ap (λ n. take n (x ++ y)) (sym r) ∙ e ∙ ap (take m) (sym tail.same) ∙ ap (λ n. take n (tail.name ++ slashed tail.names)) r in
-      (same_words x y tail.name (slashed tail.names) k (all_words x named.identifier) s (all_words tail.name tail.first.identifier) (slashed-NoWord tail.names) alike).1
+      let alike : take (reach x k) (x ++ y) ≡ take (reach x k) (tail.name ++ names_text tail.names) =
+      ap (λ n. take n (x ++ y)) (sym r) ∙ e ∙ ap (take m) (sym tail.same) ∙ ap (λ n. take n (tail.name ++ names_text tail.names)) r in
+      (same_words x y tail.name (names_text tail.names) k (all_words x named.identifier) s (all_words tail.name tail.first.identifier) (slashed-NoWord tail.names) alike).1
 
   fault_here : (c : ℕ) (y : List ℕ) → is_word c ≡ false → is_slash c ≡ false → StopsAt IsTail (x ++ c ∷ y) (length x)
   fault_here c y w s = record {
@@ -137,10 +137,10 @@ module _ (x : Name) (named : IsName x) where
     no_further = λ b. let tail = b.1 in other_than_slash c y tail.names s (after_name (c ∷ y) b.0 0 (suc (length x)) (omega arith) w tail b.2);
   }
 
-  not_more : (text : List ℕ) (k : ℕ) → StopsAt IsTail text k → (names : Path) → All IsName names → take (suc (suc k)) (47 ∷ text) ≡ take (suc (suc k)) (slashed names) → ⊥
+  not_more : (text : List ℕ) (k : ℕ) → StopsAt IsTail text k → (names : Path) → All IsName names → take (suc (suc k)) (47 ∷ text) ≡ take (suc (suc k)) (names_text names) → ⊥
   not_more text k f [] h e = cc
   not_more text k f (name ∷ names) h e =
-      f.no_further (name ++ slashed names, record { name = name; names = names; first = All-head IsName name names h; others = All-tail IsName name names h; same = refl }, cc)
+      f.no_further (name ++ names_text names, record { name = name; names = names; first = All-head IsName name names h; others = All-tail IsName name names h; same = refl }, cc)
 
   fault_more : (text : List ℕ) (k : ℕ) → StopsAt IsTail text k → StopsAt IsTail (x ++ 47 ∷ text) (length x + suc k)
   fault_more text k f =
@@ -184,7 +184,7 @@ no_letter-len (b ∷ bs) h = by_letter (is_letter b) refl
     by_letter true e = let z : 1 + prefix_len is_word bs ≡ 0 = rw e at h in absurd (omega arith)
     by_letter false e = e
 
-no_letter-append : (text : List ℕ) (names : Path) → NoLetter text → NoLetter (text ++ slashed names)
+no_letter-append : (text : List ℕ) (names : Path) → NoLetter text → NoLetter (text ++ names_text names)
 no_letter-append [] [] h = tt
 no_letter-append [] (name ∷ names) h = refl
 no_letter-append (b ∷ bs) names h = h
@@ -235,24 +235,24 @@ stops_at text some more = let c = cut text in by_rest c.words c.rest c.all c.sto
 abbrev FaultFrom : ℕ → ℕ → List ℕ → Type 0
 FaultFrom place at text = (k : ℕ) × (place + k ≡ at) × StopsAt IsTail text k
 
-fault_in_name : (place before at : ℕ) (p : List ℕ) (ps : Path) → NoSlash p → name_at place before p ≡ Err (Syntax at) → FaultFrom place at (p ++ slashed ps)
+fault_in_name : (place before at : ℕ) (p : List ℕ) (ps : Path) → NoSlash p → name_at place before p ≡ Err (Syntax at) → FaultFrom place at (p ++ names_text ps)
 fault_in_name place before at p ps free h =
     by_fault (faulted (identifier_len p == 0) (before == 32) (nat_lt 64 (identifier_len p)) (nat_lt (identifier_len p) (length p)) place (identifier_len p) at p h)
   where
     by_fault : ((identifier_len p == 0) ≡ true) × (place ≡ at) ⊎ (((identifier_len p == 0) ≡ false) × (nat_lt 64 (identifier_len p) ≡ false) × (nat_lt (identifier_len p) (length p) ≡ true) × (place + identifier_len p ≡ at))
-        → FaultFrom place at (p ++ slashed ps)
-    by_fault (inl f) = (0, omega (arith, f.1), fault_none (p ++ slashed ps) (no_letter-append p ps (no_letter-len p (is_none (identifier_len p) f.0))))
+        → FaultFrom place at (p ++ names_text ps)
+    by_fault (inl f) = (0, omega (arith, f.1), fault_none (p ++ names_text ps) (no_letter-append p ps (no_letter-len p (is_none (identifier_len p) f.0))))
     by_fault (inr f) =
         let short : identifier_len p ≤ 64 = is_short (identifier_len p) f.1 in
         let s = stops_at p (is_some (identifier_len p) f.0) (is_less (identifier_len p) (length p) f.2) in
         let no = no_slash-rest s.name (s.byte ∷ s.rest) (subst NoSlash (sym s.whole) free) in
         let size : length s.name ≡ identifier_len p = s.size in
         let place_is : place + identifier_len p ≡ at = f.3 in
-        let fault = fault_here s.name (record { identifier = s.identifier; short = omega arith }) s.byte (s.rest ++ slashed ps) s.stop no.0 in
-        let whole : s.name ++ s.byte ∷ (s.rest ++ slashed ps) ≡ p ++ slashed ps = sym (append_assoc s.name (s.byte ∷ s.rest) (slashed ps)) ∙ ap (λ (t : List ℕ). t ++ slashed ps) s.whole in
+        let fault = fault_here s.name (record { identifier = s.identifier; short = omega arith }) s.byte (s.rest ++ names_text ps) s.stop no.0 in
+        let whole : s.name ++ s.byte ∷ (s.rest ++ names_text ps) ≡ p ++ names_text ps = sym (append_assoc s.name (s.byte ∷ s.rest) (names_text ps)) ∙ ap (λ (t : List ℕ). t ++ names_text ps) s.whole in
         (length s.name, omega arith, subst (λ (t : List ℕ). StopsAt IsTail t (length s.name)) whole fault)
 
-fault_in_names : (place before at : ℕ) (p : List ℕ) (ps : Path) → before ≤ 32 → NoSlash p → AllNoSlash ps → names_at place before (p ∷ ps) ≡ Err (Syntax at) → FaultFrom place at (p ++ slashed ps)
+fault_in_names : (place before at : ℕ) (p : List ℕ) (ps : Path) → before ≤ 32 → NoSlash p → AllNoSlash ps → names_at place before (p ∷ ps) ≡ Err (Syntax at) → FaultFrom place at (p ++ names_text ps)
 fault_in_names place before at p [] shallow free others h = by_name (name_at place before p) refl h
   where
     by_name : (r : Result (List ℕ) PathFault) → name_at place before p ≡ r → before_names r (Ok []) ≡ Err (Syntax at) → FaultFrom place at (p ++ [])
@@ -261,15 +261,15 @@ fault_in_names place before at p [] shallow free others h = by_name (name_at pla
 fault_in_names place before at p (q ∷ qs) shallow free others h =
     by_name (name_at place before p) refl (names_at (place + length p + 1) (before + 1) (q ∷ qs)) refl h (fault_in_names (place + length p + 1) (before + 1) at q qs)
   where
-    by_name : (r : Result (List ℕ) PathFault) → name_at place before p ≡ r → (s : Result (List (List ℕ)) PathFault) → names_at (place + length p + 1) (before + 1) (q ∷ qs) ≡ s → before_names r s ≡ Err (Syntax at)
-        → (before + 1 ≤ 32 → NoSlash q → AllNoSlash qs → names_at (place + length p + 1) (before + 1) (q ∷ qs) ≡ Err (Syntax at) → FaultFrom (place + length p + 1) at (q ++ slashed qs)) → FaultFrom place at (p ++ slashed (q ∷ qs))
+    by_name : (r : Result Name PathFault) → name_at place before p ≡ r → (s : Result Path PathFault) → names_at (place + length p + 1) (before + 1) (q ∷ qs) ≡ s → before_names r s ≡ Err (Syntax at)
+        → (before + 1 ≤ 32 → NoSlash q → AllNoSlash qs → names_at (place + length p + 1) (before + 1) (q ∷ qs) ≡ Err (Syntax at) → FaultFrom (place + length p + 1) at (q ++ names_text qs)) → FaultFrom place at (p ++ names_text (q ∷ qs))
     by_name (Err fault) e s g o rest = fault_in_name place before at p (q ∷ qs) free (e ∙ (let f : fault ≡ Syntax at = cc in ap Err f))
     by_name (Ok name) e (Ok names) g o rest = absurd (cc)
     by_name (Ok name) e (Err fault) g o rest =
         let ok = name_at-Ok place before p name shallow e in
         let f : fault ≡ Syntax at = cc in
         let more = rest (omega (arith, ok.2)) others.0 others.1 (g ∙ ap Err f) in
-        (length p + suc more.0, omega (arith, more.1), fault_more p ok.1 (q ++ slashed qs) more.0 more.2)
+        (length p + suc more.0, omega (arith, more.1), fault_more p ok.1 (q ++ names_text qs) more.0 more.2)
 
 -- no text of names begins without a slash
 no_names : (text : List ℕ) (names : Path) → ((b : ℕ) → take 1 text ≡ b ∷ [] → is_slash b ≡ false) → take 1 text ≡ take 1 (path_text names) → ⊥
@@ -285,7 +285,7 @@ fault_at_start text s = record {
 not_names : (c : ℕ) (rest : List ℕ) (k : ℕ) → StopsAt IsTail (c ∷ rest) k → (names : Path) → All IsName names → take (suc (suc k)) (47 ∷ c ∷ rest) ≡ take (suc (suc k)) (path_text names) → ⊥
 not_names c rest k f [] h e = cc
 not_names c rest k f (name ∷ names) h e =
-    f.no_further (name ++ slashed names, record { name = name; names = names; first = All-head IsName name names h; others = All-tail IsName name names h; same = refl }, cc)
+    f.no_further (name ++ names_text names, record { name = name; names = names; first = All-head IsName name names h; others = All-tail IsName name names h; same = refl }, cc)
 
 fault_after_slash : (c : ℕ) (rest : List ℕ) (k : ℕ) → StopsAt IsTail (c ∷ rest) k → StopsAt IsTextOfNames (47 ∷ c ∷ rest) (suc k)
 fault_after_slash c rest k f =
@@ -299,10 +299,10 @@ fault_after_slash c rest k f =
       no_further = λ b. not_names c rest k f b.1.0 b.1.1 (b.2 ∙ ap (take (suc (suc k))) (sym b.1.2));
     }
 
-pieces_fault : (parts : Path) (text : List ℕ) (at : ℕ) → AllNoSlash parts → slashed parts ≡ 47 ∷ text → names_at 1 0 parts ≡ Err (Syntax at) → FaultFrom 1 at text
+pieces_fault : (parts : Path) (text : List ℕ) (at : ℕ) → AllNoSlash parts → names_text parts ≡ 47 ∷ text → names_at 1 0 parts ≡ Err (Syntax at) → FaultFrom 1 at text
 pieces_fault [] text at free same h = absurd (cc)
 pieces_fault (p ∷ ps) text at free same h =
-    let t : p ++ slashed ps ≡ text = cc in
+    let t : p ++ names_text ps ≡ text = cc in
     subst (λ (u : List ℕ). FaultFrom 1 at u) t (fault_in_names 1 0 at p ps (omega arith) free.0 free.1 h)
 
 not_slash : (b : ℕ) (rest : List ℕ) → is_slash b ≡ false → (c : ℕ) → take 1 (b ∷ rest) ≡ c ∷ [] → is_slash c ≡ false

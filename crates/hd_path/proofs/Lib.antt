@@ -6,3 +6,4 @@ pub mod Orders
 pub mod Scanning
 pub mod Building
 pub mod FaultPlaces
+pub mod NamePrefixes

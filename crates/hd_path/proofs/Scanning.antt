@@ -5,23 +5,24 @@ use Rattle.std.proofs.lemmas.Bool.Decides.{nat_tests}
 use Rattle.std.specs.List.{prefix_len}
 use Rattle.std.specs.Prelude.{nat_lt, ◌==◌}
 use Rattle.std.specs.Result.{result_err}
+use Rattle.hd_path.specs.Paths.{Path}
 use Rattle.hd_path.specs.declared.fault.PathFault.{PathFault}
 use Rattle.hd_path.specs.declared.fault.PathFault.TheVariants.{Syntax, TooDeep, NameTooLong}
-use Rattle.hd_path.specs.Names.{is_letter, is_word, identifier_len}
+use Rattle.hd_path.specs.Names.{Name, is_letter, is_word, identifier_len}
 use Rattle.hd_path.specs.Parsing.{is_slash, pieces, name_at, before_names, names_at}
 use Rattle.hd_path.proofs.Bytes.{words_all, words_plain}
 use Rattle.hd_path.proofs.Slashes.{is_slash_is, pieces_plain}
 
--- what stands before the first slash
+-- what is before the first slash
 abbrev pub first_piece : List ℕ → List ℕ
 first_piece [] = []
 first_piece (b ∷ bs) = cond (is_slash b) [] (b ∷ first_piece bs)
 
-pieces_head : (rest : List ℕ) → (others : List (List ℕ)) × (pieces rest ≡ first_piece rest ∷ others)
+pieces_head : (rest : List ℕ) → (others : List Name) × (pieces rest ≡ first_piece rest ∷ others)
 pieces_head [] = ([], refl)
 pieces_head (b ∷ bs) = by_slash (is_slash b) refl (pieces_head bs)
   where
-    by_slash : (s : Bool) → is_slash b ≡ s → ((others : List (List ℕ)) × (pieces bs ≡ first_piece bs ∷ others)) → (others : List (List ℕ)) × (pieces (b ∷ bs) ≡ first_piece (b ∷ bs) ∷ others)
+    by_slash : (s : Bool) → is_slash b ≡ s → ((others : List Name) × (pieces bs ≡ first_piece bs ∷ others)) → (others : List Name) × (pieces (b ∷ bs) ≡ first_piece (b ∷ bs) ∷ others)
     by_slash true e rest = (pieces bs, rw e refl)
     by_slash false e rest = (rest.0, rw (e, rest.1) refl)
 
@@ -62,7 +63,7 @@ a_slash b h = grind (arith, nat_tests)
 one-add : (n : ℕ) → 1 + n ≡ suc n
 one-add n = omega arith
 
--- the piece goes on behind the words where no slash follows them
+-- the piece goes on after the words where no slash follows them
 goes_on : (rest : List ℕ) → prefix_len is_word rest < length rest → is_slash (get_or rest (prefix_len is_word rest) 0) ≡ false → prefix_len is_word rest < length (first_piece rest)
 goes_on [] h s = absurd (omega arith)
 goes_on (b ∷ bs) h s = by_slash (is_slash b) refl (is_word b) refl (goes_on bs)
@@ -103,9 +104,9 @@ is_cut (b ∷ bs) h s = by_slash (is_slash b) refl (is_word b) refl (is_cut bs)
 fails : (place before : ℕ) (rest : List ℕ) (fault : PathFault) → name_at place before (first_piece rest) ≡ Err fault → result_err (names_at place before (pieces rest)) ≡ Some fault
 fails place before rest fault h = let head = pieces_head rest in rw (head.1, h) refl
 
-err_behind : (name : List ℕ) (others : Result (List (List ℕ)) PathFault) → result_err (before_names (Ok name) others) ≡ result_err others
-err_behind name (Ok names) = refl
-err_behind name (Err fault) = refl
+err_after : (name : List ℕ) (others : Result Path PathFault) → result_err (before_names (Ok name) others) ≡ result_err others
+err_after name (Ok names) = refl
+err_after name (Err fault) = refl
 
 module _ {T : Type 0} (len before size : ℕ) (a b c d e : T) where
   abbrev choice : T
@@ -166,7 +167,7 @@ module _ (place before : ℕ) (rest : List ℕ) where
       let size : length (first_piece rest) ≡ identifier_len rest = cut.size ∙ sym w in
       let next : suc (prefix_len is_word rest) ≡ identifier_len rest + 1 = omega arith in
       let name : name_at place before (first_piece rest) ≡ Ok (first_piece rest) = choose_name (identifier_len (first_piece rest)) before (length (first_piece rest)) _ _ _ _ _ (omega arith) shallow (omega arith) (omega arith) in
-      rw (cut.parts, name) (err_behind (first_piece rest) _
+      rw (cut.parts, name) (err_after (first_piece rest) _
       ∙ ap (λ n. result_err (names_at (place + n + 1) (before + 1) (pieces (drop (suc (prefix_len is_word rest)) rest)))) size
       ∙ ap (λ n. result_err (names_at (place + identifier_len rest + 1) (before + 1) (pieces (drop n rest)))) next)
 

@@ -15,7 +15,7 @@ child_of path name =
     else Ok (path ++ name ∷ [])))
 
 -- the path with other names in place of those that it begins with
-abbrev pub replaced : Path → Path → Path → Result Path PathFault
-replaced path from to =
+abbrev pub replace_prefix : Path → Path → Path → Result Path PathFault
+replace_prefix path from to =
     let names = to ++ drop (length from) path in
     if nat_lt 32 (length names) then Err TooDeep else Ok names

@@ -6,15 +6,15 @@ use Rattle.hd_path.specs.declared.fault.PathFault.TheVariants.{Syntax}
 use Rattle.hd_path.specs.Changes.{child_of}
 use Rattle.hd_path.specs.Names.{Name, IsName, is_identifier}
 use Rattle.hd_path.specs.Paths.{Path, IsPath, path_text, path_cmp}
-use Rattle.hd_path.specs.Parsing.{parsed}
+use Rattle.hd_path.specs.Parsing.{path_of_text}
 
 -- a path is what its text spells
 abbrev pub TextSpellsPath : Type 0
-TextSpellsPath = (path : Path) → IsPath path → parsed (path_text path) ≡ Ok path
+TextSpellsPath = (path : Path) → IsPath path → path_of_text (path_text path) ≡ Ok path
 
 -- a text that spells a path is the text of that path
 abbrev pub SpelledPathHasText : Type 0
-SpelledPathHasText = (text : List ℕ) (path : Path) → parsed text ≡ Ok path → IsPath path × (path_text path ≡ text)
+SpelledPathHasText = (text : List ℕ) (path : Path) → path_of_text text ≡ Ok path → IsPath path × (path_text path ≡ text)
 
 -- the order name by name is that of the texts
 abbrev pub OrderIsThatOfTexts : Type 0
@@ -35,7 +35,7 @@ IsTextOfNames text = (names : Path) × All IsName names × (path_text names ≡ 
 
 -- a text's fault is at the first byte at which no names go on, or at its end where it is too short
 abbrev pub FaultIsWhereNoPathGoesOn : Type 0
-FaultIsWhereNoPathGoesOn = (text : List ℕ) (at : ℕ) → parsed text ≡ Err (Syntax at) → StopsAt IsTextOfNames text at
+FaultIsWhereNoPathGoesOn = (text : List ℕ) (at : ℕ) → path_of_text text ≡ Err (Syntax at) → StopsAt IsTextOfNames text at
 
 -- the same of a child's name and identifiers, of any length
 abbrev pub ChildFaultIsWhereNoNameGoesOn : Type 0

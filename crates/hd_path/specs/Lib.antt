@@ -4,5 +4,5 @@ pub mod Faults
 pub mod Parsing
 pub mod Changes
 pub mod Texts
-pub mod Comparing
 pub mod Laws
+pub mod inner

@@ -1,6 +1,9 @@
 -- What a name is.
-use Rattle.std.specs.Prelude.{◌≡◌, ℕ, ◌≤◌, Bool, true, false, ◌&&◌, ◌||◌, ◌==◌, nat_le, if◌then◌else◌, List, [], ◌∷◌, length}
+use Rattle.std.specs.Prelude.{◌≡◌, ℕ, ◌≤◌, Bool, true, false, ◌&&◌, ◌||◌, ◌==◌, nat_le, if◌then◌else◌, List, [], ◌∷◌, length, nat_eq}
+use Rattle.std.specs.Cmp.Lexicographic.{pointwise, slice_cmp}
+use Rattle.std.specs.declared.cmp.Ordering.{Ordering}
 use Rattle.std.specs.List.{list_all, prefix_len}
+use Rattle.std.specs.Ordering.{nat_cmp}
 
 -- a name, or any text, is the list of its bytes
 abbrev pub Name : Type 0
@@ -16,7 +19,7 @@ is_digit b = nat_le 48 b && nat_le b 57
 abbrev pub is_word : ℕ → Bool
 is_word b = is_letter b || is_digit b
 
--- a letter, and behind it letters and digits
+-- a letter, and after it letters and digits
 abbrev pub is_identifier : Name → Bool
 is_identifier [] = false
 is_identifier (first ∷ rest) = is_letter first && list_all is_word rest
@@ -30,3 +33,11 @@ identifier_len (first ∷ rest) = if is_letter first then prefix_len is_word (fi
 pub record IsName (name : Name) : Type 0 where
   pub identifier : is_identifier name ≡ true
   pub short : length name ≤ 64
+
+-- whether the two names are one
+abbrev pub is_same : Name → Name → Bool
+is_same = pointwise nat_eq
+
+-- the order of two names by their bytes
+abbrev pub byte_order : Name → Name → Ordering
+byte_order = slice_cmp nat_cmp

@@ -1,10 +1,9 @@
 -- Paths, from the root down.
-use Rattle.std.specs.Prelude.{◌≡◌, ℕ, ◌≤◌, List, [], ◌∷◌, length, take, All, codes}
+use Rattle.std.specs.Prelude.{ℕ, ◌≤◌, Bool, true, false, ◌&&◌, List, [], ◌∷◌, length, All, codes}
 use Rattle.std.specs.Cmp.Lexicographic.{slice_cmp}
 use Rattle.std.specs.List.{flat_map}
-use Rattle.std.specs.Ordering.{nat_cmp}
 use Rattle.std.specs.declared.cmp.Ordering.{Ordering}
-use Rattle.hd_path.specs.Names.{Name, IsName}
+use Rattle.hd_path.specs.Names.{Name, IsName, is_same, byte_order}
 
 -- a path is the list of its names
 abbrev pub Path : Type 0
@@ -15,19 +14,21 @@ pub record IsPath (names : Path) : Type 0 where
   pub shallow : length names ≤ 32
   pub named : All IsName names
 
--- each name behind a slash
-abbrev pub slashed : List Name → List ℕ
-slashed names = flat_map (λ name. 47 ∷ name) names
+-- each name after a slash
+abbrev pub names_text : List Name → List ℕ
+names_text names = flat_map (λ name. 47 ∷ name) names
 
--- the text of a path: a slash for the root, and else each name behind a slash
+-- the text of a path: a slash for the root, and else each name after a slash
 abbrev pub path_text : Path → List ℕ
 path_text [] = codes "/"
-path_text (name ∷ names) = slashed (name ∷ names)
+path_text (name ∷ names) = names_text (name ∷ names)
 
--- the path begins with the names of the prefix
-abbrev pub HasPrefix : Path → Path → Type 0
-HasPrefix path prefix = take (length prefix) path ≡ prefix
+-- whether the second list of names begins with the first. It is said of paths, and of locators, whose names are tokens
+abbrev pub is_prefix : List Name → List Name → Bool
+is_prefix [] whole = true
+is_prefix (x ∷ front) [] = false
+is_prefix (x ∷ front) (y ∷ whole) = is_same x y && is_prefix front whole
 
 -- the order of paths, name by name
 abbrev pub path_cmp : Path → Path → Ordering
-path_cmp = slice_cmp (slice_cmp nat_cmp)
+path_cmp = slice_cmp byte_order

@@ -4,7 +4,7 @@ ghost use Rattle.std.specs.Prelude.{◌≡◌, ◌+◌, ◌^◌, ◌<◌, ◌≤
 ghost use Rattle.std.specs.List.{prefix_len};
 ghost use Rattle.std.specs.Result.{result_err};
 ghost use Rattle.hd_path.specs.Names.{is_letter, is_word, identifier_len};
-ghost use Rattle.hd_path.specs.Parsing.{pieces, names_at, parsed};
+ghost use Rattle.hd_path.specs.Parsing.{pieces, names_at, path_of_text};
 
 use crate::fault::PathFault;
 use crate::{MAX_DEPTH, MAX_NAME_LEN};
@@ -16,14 +16,14 @@ pub fn is_letter(byte: u8) -> bool
     matches!(byte, b'A'..=b'Z' | b'a'..=b'z' | b'_')
 }
 
-/// May the byte stand in a name: a letter of names, or an ASCII digit?
+/// May the byte are in a name: a letter of names, or an ASCII digit?
 pub fn is_word(byte: u8) -> bool
     ensures { result ≡ is_word byte }
 {
     is_letter(byte) || byte.is_ascii_digit()
 }
 
-/// How many bytes at the front may stand in a name.
+/// How many bytes at the front may are in a name.
 pub fn word_len(bytes: &[u8]) -> usize
     ensures len { result ≡ prefix_len is_word bytes.now }
     ensures within { result ≤ length bytes.now }
@@ -52,8 +52,8 @@ pub(crate) fn identifier_len_at(text: &[u8], start: usize) -> usize
     identifier_len(&text[start..])
 }
 
-/// The first fault of the names that stand between slashes in `rest`, which begins at `place` of the whole text,
-/// behind so many names.
+/// The first fault of the names that are between slashes in `rest`, which begins at `place` of the whole text,
+/// after so many names.
 #[tactic(auto, using(crate::proofs::Scanning::scan_steps))]
 fn check_names(rest: &[u8], place: usize, before: usize) -> Result<(), PathFault>
     requires room { place + length rest.now < 2 ^ 64 }
@@ -81,7 +81,7 @@ fn check_names(rest: &[u8], place: usize, before: usize) -> Result<(), PathFault
 
 /// The first fault of a text that spells no path.
 pub(crate) fn check_path(text: &[u8]) -> Result<(), PathFault>
-    ensures { result_err result ≡ result_err (parsed text.now) }
+    ensures { result_err result ≡ result_err (path_of_text text.now) }
 {
     match text {
         [b'/'] => Ok(()),

@@ -8,7 +8,7 @@ ghost use Rattle.std.specs.Hash as fed;
 ghost use Rattle.std.specs.Ordering.{nat_cmp};
 ghost use Rattle.std.proofs.Common.{refl, ap};
 ghost use Rattle.std.proofs.lemmas.Cmp.{lists_total, lists_equiv};
-ghost use Rattle.hd_path.specs.Comparing.{bytes_same, names_same, names_ties, names_po};
+ghost use Rattle.hd_path.specs.inner.Comparing.{bytes_same, names_same, names_ties, names_po};
 ghost use Rattle.hd_path.specs.Paths.{path_text, path_cmp};
 
 use crate::path::Path;

@@ -1,13 +1,14 @@
 //! Paths of prims.
 
 ghost use Rattle.std.specs.Prelude.{◌≡◌, ◌≢◌, ◌↔◌, ◌+◌, ◌-◌, ◌<◌, ◌≤◌, ℕ, List, [], ◌∷◌, ◌++◌, length, take, drop, slice_index, slice_index_or, string_bytes, IfOk, IsTrue, count_by};
-ghost use Rattle.hd_path.specs.Changes.{child_of, replaced};
+ghost use Rattle.hd_path.specs.Changes.{child_of, replace_prefix};
 ghost use Rattle.hd_path.specs.Faults.{Gives};
 ghost use Rattle.hd_path.specs.Names.{IsName};
-ghost use Rattle.hd_path.specs.Parsing.{is_slash, parsed};
+ghost use Rattle.hd_path.specs.Parsing.{is_slash, path_of_text};
 ghost use Rattle.hd_path.specs.Paths;
-ghost use Rattle.hd_path.specs.Paths.{slashed, path_text, HasPrefix, IsPath};
-ghost use Rattle.hd_path.specs.Texts.{names_in, IsSlashed, GoesOnAtSlash};
+ghost use Rattle.hd_path.specs.Paths.{names_text, path_text, is_prefix, IsPath};
+ghost use Rattle.hd_path.specs.Texts.{names_in, IsSlashed};
+ghost use Rattle.hd_path.specs.inner.TextPrefixes.{GoesOnAtSlash};
 
 use crate::fault::PathFault;
 use crate::names::{check_path, identifier_len, identifier_len_at};
@@ -19,7 +20,7 @@ use std::sync::ArcStr;
 /// A path from the root: at most 32 names of at most 64 bytes. A copy shares the text of its source.
 #[derive(Drop)]
 pub struct Path {
-    /// Each name behind a slash, and `None` for the root.
+    /// Each name after a slash, and `None` for the root.
     shared: Option<ArcStr>,
 }
 
@@ -42,12 +43,12 @@ impl Path {
         Path { shared: None }
     }
 
-    /// The path that a text spells: `/`, or names that each stand behind a slash.
+    /// The path that a text spells: `/`, or names that each are after a slash.
     ///
     /// The first fault from the left decides: `Syntax` at the first byte at which no path goes on, `TooDeep` at a
     /// 33rd name, `NameTooLong` at the 65th byte of a name.
     pub fn parse(alloc: Global, text: &str) -> Result<Path, PathFault>
-        ensures exact { Gives (parsed text.now) result }
+        ensures exact { Gives (path_of_text text.now) result }
         ensures found { IfOk result (λ names. IsPath names × (path_text names ≡ text.now)) }
         ensures only { (names : Paths.Path) → IsPath names → path_text names ≡ text.now → Gives (Ok names) result }
     {
@@ -71,7 +72,7 @@ impl Path {
         ensures names { result ≡ length self.now }
         ensures bound { result ≤ 32 }
     {
-        slash_count(self.slashed().as_bytes())
+        slash_count(self.names_text().as_bytes())
     }
 
     /// The name at a place, counted from the root's children on.
@@ -79,7 +80,7 @@ impl Path {
         requires { i < length self.now }
         ensures { result.now ≡ slice_index_or self.now i [] }
     {
-        let text = self.slashed();
+        let text = self.names_text();
         let start = name_start(text.as_bytes(), i);
         let len = identifier_len_at(text.as_bytes(), start);
         &text[start..start + len]
@@ -87,9 +88,9 @@ impl Path {
 
     /// Whether the path begins with the names of the other, which may be the whole path.
     pub fn has_prefix(&self, other: &Path) -> bool
-        ensures { IsTrue result ↔ HasPrefix self.now other.now }
+        ensures { result ≡ is_prefix other.now self.now }
     {
-        goes_on_at_slash(self.slashed().as_bytes(), other.slashed().as_bytes())
+        goes_on_at_slash(self.names_text().as_bytes(), other.names_text().as_bytes())
     }
 
     /// The path without its last name.
@@ -125,20 +126,20 @@ impl Path {
     /// more than 32 names.
     #[tactic(auto, using(crate::proofs::Building::slashed_texts))]
     pub fn replace_prefix(&self, alloc: Global, from: &Path, to: &Path) -> Result<Path, PathFault>
-        requires { HasPrefix self.now from.now }
-        ensures { Gives (replaced self.now from.now to.now) result }
+        requires { IsTrue (is_prefix from.now self.now) }
+        ensures { Gives (replace_prefix self.now from.now to.now) result }
     {
         if self.depth() - from.depth() + to.depth() > MAX_DEPTH {
             return Err(PathFault::TooDeep);
         }
-        Ok(to.followed_by(alloc, self.slashed_behind(from))?)
+        Ok(to.followed_by(alloc, self.slashed_after(from))?)
     }
 
-    /// The text of the path: `/` for the root, and else each name behind a slash.
+    /// The text of the path: `/` for the root, and else each name after a slash.
     pub fn as_text(&self) -> &str
         ensures { result.now ≡ path_text self.now }
     {
-        let text = self.slashed();
+        let text = self.names_text();
         if text.is_empty() { "/" } else { text }
     }
 
@@ -161,9 +162,9 @@ impl Path {
         }
     }
 
-    /// Each name behind a slash.
-    fn slashed(&self) -> &str
-        ensures text { result.now ≡ slashed self.now }
+    /// Each name after a slash.
+    fn names_text(&self) -> &str
+        ensures text { result.now ≡ names_text self.now }
         ensures path { IsPath self.now }
     {
         match &self.shared {
@@ -172,28 +173,28 @@ impl Path {
         }
     }
 
-    /// Each name but the last behind a slash.
+    /// Each name but the last after a slash.
     fn slashed_parent(&self) -> &str
         requires { 0 < length self.now }
-        ensures text { result.now ≡ slashed (take (length self.now - 1) self.now) }
+        ensures text { result.now ≡ names_text (take (length self.now - 1) self.now) }
         ensures path { IsPath (take (length self.now - 1) self.now) }
     {
-        let text = self.slashed();
+        let text = self.names_text();
         let start = last_name_start(text.as_bytes());
         &text[..start - 1]
     }
 
-    /// Each name behind those of the prefix, behind a slash.
-    fn slashed_behind(&self, prefix: &Path) -> &str
-        requires { HasPrefix self.now prefix.now }
-        ensures text { result.now ≡ slashed (drop (length prefix.now) self.now) }
+    /// Each name after those of the prefix, after a slash.
+    fn slashed_after(&self, prefix: &Path) -> &str
+        requires { IsTrue (is_prefix prefix.now self.now) }
+        ensures text { result.now ≡ names_text (drop (length prefix.now) self.now) }
         ensures path { IsPath (drop (length prefix.now) self.now) }
     {
-        let front = prefix.slashed();
-        &self.slashed()[front.len()..]
+        let front = prefix.names_text();
+        &self.names_text()[front.len()..]
     }
 
-    /// The path whose names stand in this text, each behind a slash.
+    /// The path whose names are in this text, each after a slash.
     fn from_slashed(alloc: Global, text: &str) -> Result<Path, AllocError>
         requires { IsSlashed text.now }
         ensures { IfOk result (λ path. path ≡ names_in text.now) }
@@ -220,7 +221,7 @@ impl Path {
         requires room { length self.now < 32 }
         ensures { IfOk result (λ path. path ≡ self.now ++ name.now ∷ []) }
     {
-        let parent = self.slashed();
+        let parent = self.names_text();
         let mut text = String::with_capacity(alloc, parent.len() + 1 + name.len())?;
         text.push_str(parent)?;
         text.push('/')?;
@@ -228,13 +229,13 @@ impl Path {
         Path::from_slashed_string(text)
     }
 
-    /// The path with the names that stand in `rest`, each behind a slash.
+    /// The path with the names that are in `rest`, each after a slash.
     fn followed_by(&self, alloc: Global, rest: &str) -> Result<Path, AllocError>
         requires names { IsSlashed rest.now }
         requires room { length self.now + length (names_in rest.now) ≤ 32 }
         ensures { IfOk result (λ path. path ≡ self.now ++ names_in rest.now) }
     {
-        let front = self.slashed();
+        let front = self.names_text();
         let mut text = String::with_capacity(alloc, front.len() + rest.len())?;
         text.push_str(front)?;
         text.push_str(rest)?;
@@ -260,7 +261,7 @@ fn goes_on_at_slash(text: &[u8], front: &[u8]) -> bool
 fn name_start(text: &[u8], number: usize) -> usize
     requires names { IsSlashed text.now }
     requires in_range { number < length (names_in text.now) }
-    ensures { result ≡ length (slashed (take number (names_in text.now))) + 1 }
+    ensures { result ≡ length (names_text (take number (names_in text.now))) + 1 }
 {
     let mut start = 1;
     for _name in 0..number {
@@ -269,11 +270,11 @@ fn name_start(text: &[u8], number: usize) -> usize
     start
 }
 
-/// Where what stands behind the last slash begins, and 0 where there is none.
+/// Where what is after the last slash begins, and 0 where there is none.
 fn last_name_start(text: &[u8]) -> usize
     ensures within { result ≤ length text.now }
     ensures slash { 0 < result → slice_index text.now (result - 1) ≡ 47 }
-    ensures behind { (k : ℕ) → result ≤ k → k < length text.now → slice_index text.now k ≢ 47 }
+    ensures after { (k : ℕ) → result ≤ k → k < length text.now → slice_index text.now k ≢ 47 }
 {
     let mut start = text.len();
     while start > 0 && text[start - 1] != b'/' {

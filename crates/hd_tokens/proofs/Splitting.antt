@@ -30,7 +30,7 @@ split_goes_on {X} p n (x ∷ xs) is h = by_test (λ m. split_goes_on p m xs) (p 
         let more : suc m ≡ 1 + prefix_len (λ x. not (p x)) xs = rw e at is in
         rw (e, goes_on m (omega arith) (omega arith)) refl
 
--- the first part has n elements, and nothing stands behind it, or a cut and the others
+-- the first part has n elements, and nothing is after it, or a cut and the others
 abbrev pub IsFirst : {X : Type 0} → (X → Bool) → ℕ → List X → Type 0
 IsFirst p n xs = n ≡ prefix_len (λ x. not (p x)) xs
 
@@ -51,9 +51,9 @@ one_further zero xs = refl
 one_further (suc n) [] = refl
 one_further (suc n) (x ∷ xs) = one_further n xs
 
--- what a pattern binds behind the first element
-pub behind_first : {X : Type 0} (n : ℕ) (xs ys : List X) → ys ≡ drop n xs → take (length ys - 1) (drop 1 ys) ≡ drop (n + 1) xs
-behind_first n xs ys is =
+-- what a pattern binds after the first element
+pub after_first : {X : Type 0} (n : ℕ) (xs ys : List X) → ys ≡ drop n xs → take (length ys - 1) (drop 1 ys) ≡ drop (n + 1) xs
+after_first n xs ys is =
     let all : take (length ys - 1) (drop 1 ys) ≡ drop 1 ys = take_all (length ys - 1) (drop 1 ys) (omega (arith, length-drop 1 ys)) in
     all ∙ ap (drop 1) is ∙ one_further n xs ∙ ap (λ m. drop m xs) (sym (add-one n))
 

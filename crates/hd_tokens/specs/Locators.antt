@@ -1,15 +1,16 @@
 -- The fixed locators of a prim's values.
-use Rattle.std.specs.Prelude.{ℕ, List, [], ◌∷◌, codes}
+use Rattle.std.specs.Prelude.{List, [], ◌∷◌, codes}
+use Rattle.hd_path.specs.Names.{Name}
 
 -- a locator is the list of its tokens, from the outermost in
 abbrev pub Locator : Type 0
-Locator = List (List ℕ)
+Locator = List Name
 
 -- a locator of one token, and of two
-abbrev pub one : List ℕ → Locator
+abbrev pub one : Name → Locator
 one a = a ∷ []
 
-abbrev pub two : List ℕ → List ℕ → Locator
+abbrev pub two : Name → Name → Locator
 two a b = a ∷ b ∷ []
 
 -- points, of a mesh or of a cloud of points
@@ -43,7 +44,7 @@ xform_at = one (codes "xform")
 abbrev pub order_at : Locator
 order_at = two (codes "xform") (codes "order")
 
-abbrev pub op_at : List ℕ → Locator
+abbrev pub op_at : Name → Locator
 op_at name = codes "xform" ∷ codes "ops" ∷ name ∷ []
 
 abbrev pub reset_at : Locator

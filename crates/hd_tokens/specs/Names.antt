@@ -1,11 +1,11 @@
 -- Words, and the names of properties: words that colons join.
-use Rattle.std.specs.Prelude.{ℕ, List, length, Bool, ◌&&◌, ◌||◌, not, ◌==◌, codes}
+use Rattle.std.specs.Prelude.{ℕ, List, Bool, ◌&&◌, ◌||◌, not, ◌==◌, codes}
 use Rattle.std.specs.List.{list_all, list_any, slice_split}
 use Rattle.std.specs.Str.{bytes_eq}
-use Rattle.hd_path.specs.Names.{is_identifier}
+use Rattle.hd_path.specs.Names.{Name, is_identifier}
 
 -- the text is one of the words
-abbrev pub is_any : List (List ℕ) → List ℕ → Bool
+abbrev pub is_any : List Name → Name → Bool
 is_any words text = list_any (bytes_eq text) words
 
 -- the words that are numbers

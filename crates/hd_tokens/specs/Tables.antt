@@ -1,12 +1,13 @@
 -- What the constants of the code mean.
-use Rattle.std.specs.Prelude.{ℕ, List, map}
+use Rattle.std.specs.Prelude.{List, map}
 use Rattle.std.specs.Borrow.{Bor}
 use Rattle.hd_tokens.specs.declared.properties.UsedProperty as code
 use Rattle.hd_tokens.specs.declared.properties.OpKind as kind
+use Rattle.hd_path.specs.Names.{Name}
 use Rattle.hd_tokens.specs.Properties.{UsedProperty, OpKind}
 
 -- the texts of some words
-abbrev pub texts : List (Bor (List ℕ)) → List (List ℕ)
+abbrev pub texts : List (Bor Name) → List Name
 texts words = map (λ word. word.now) words
 
 -- a row of the table of used properties

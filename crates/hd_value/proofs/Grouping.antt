@@ -1,16 +1,18 @@
--- Each value stands under the locators of one group.
+-- Each value is under the locators of one group.
 use Rattle.std.proofs.Common.{◌≡◌, ℕ, Bool, true, false, ◌&&◌, ◌||◌, ◌==◌, List, [], ◌∷◌, codes, refl, ap, sym, ◌∙◌}
 use Rattle.std.specs.List.{count_by, list_all}
 use Rattle.std.proofs.lemmas.Bool.Decides.{Decides-eqb}
-use Rattle.hd_tokens.specs.Locators.{op_at}
+use Rattle.hd_tokens.specs.Locators.{Locator, op_at}
 use Rattle.hd_value.specs.declared.value.Value.{Value}
 use Rattle.hd_value.specs.declared.value.Value.TheVariants.{Token, Tokens, Ints, Vecs, Color, Colors, Paths, Op, Matrix, Out, Flag}
 use Rattle.hd_value.specs.Groups.{locator_of_group, locators_before_flattening}
 use Rattle.hd_value.specs.Laws.{groups, FlattenedHaveOneGroup, InstancedHaveOneGroup}
-use Rattle.hd_value.specs.Locators.{is_same, is_prefix, intersects}
+use Rattle.hd_value.specs.Locators.{intersects}
 use Rattle.hd_value.specs.LocatorSets.{touches}
 use Rattle.hd_value.specs.Schema.{Row, passed_rows, flattened_away_rows, instanced_by_row, reset_row, flattened_rows, allows, is_named_op}
-use Rattle.hd_value.proofs.Prefixes.{and_true, same_text}
+use Rattle.hd_path.specs.Names.{is_same}
+use Rattle.hd_path.specs.Paths.{is_prefix}
+use Rattle.hd_path.proofs.NamePrefixes.{and_true, same_text}
 
 not_true : {P : Type 0} → false ≡ true → P
 not_true e = absurd (none e)
@@ -23,7 +25,7 @@ either true b e left right = left refl
 either false b e left right = right e
 
 -- two locators that begin with each other are one
-both_prefixes : (a b : List (List ℕ)) → is_prefix a b ≡ true → is_prefix b a ≡ true → a ≡ b
+both_prefixes : (a b : Locator) → is_prefix a b ≡ true → is_prefix b a ≡ true → a ≡ b
 both_prefixes [] [] e f = refl
 both_prefixes [] (y ∷ b) e f = not_true f
 both_prefixes (x ∷ a) [] e f = not_true e
@@ -33,7 +35,7 @@ both_prefixes (x ∷ a) (y ∷ b) e f =
     ap (λ w. w ∷ a) (same_text x y front.0) ∙ ap (λ t. y ∷ t) (both_prefixes a b front.1 back.1)
 
 -- what holds of the locator of each row holds where a row allows a value
-at_rows : (test : List (List ℕ) → Bool) (rows : List Row) (at : List (List ℕ)) (v : Value) → list_all (λ (row : Row). test row.0) rows ≡ true → allows rows at v ≡ true → test at ≡ true
+at_rows : (test : Locator → Bool) (rows : List Row) (at : Locator) (v : Value) → list_all (λ (row : Row). test row.0) rows ≡ true → allows rows at v ≡ true → test at ≡ true
 at_rows test [] at v all e = not_true e
 at_rows test (row ∷ rows) at v all e =
     let each = and_true (test row.0) (list_all (λ (r : Row). test r.0) rows) all in
@@ -44,8 +46,8 @@ at_rows test (row ∷ rows) at v all e =
     ap test (sym (both_prefixes row.0 at prefixes.0 prefixes.1)) ∙ each.0)
     (λ later. at_rows test rows at v each.1 later)
 
--- what holds of the locator of each op holds where an op may stand
-at_ops : (test : List (List ℕ) → Bool) (at : List (List ℕ)) (v : Value) → ((name : List ℕ) → test (op_at name) ≡ true) → is_named_op at v ≡ true → test at ≡ true
+-- what holds of each locator of an op holds wherever an op may be
+at_ops : (test : Locator → Bool) (at : Locator) (v : Value) → ((name : List ℕ) → test (op_at name) ≡ true) → is_named_op at v ≡ true → test at ≡ true
 at_ops test (a ∷ b ∷ name ∷ []) (Op op) all e =
     let both = and_true (is_prefix (op_at name) (a ∷ b ∷ name ∷ [])) _ e in
     let first = and_true (is_same (codes "xform") a) (is_prefix (codes "ops" ∷ name ∷ []) (b ∷ name ∷ [])) both.0 in
@@ -68,10 +70,10 @@ at_ops test (a ∷ []) v all e = not_true e
 at_ops test (a ∷ b ∷ []) v all e = not_true e
 at_ops test (a ∷ b ∷ name ∷ more ∷ rest) v all e = not_true e
 
-abbrev in_one : List (List ℕ) → Bool
+abbrev in_one : Locator → Bool
 in_one at = count_by (λ group. intersects (locator_of_group group) at) groups == 1
 
-abbrev in_one_before : List (List ℕ) → Bool
+abbrev in_one_before : Locator → Bool
 in_one_before at = count_by (λ group. touches (locators_before_flattening group) at) groups == 1
 
 pub flattened_have_one_group : FlattenedHaveOneGroup

@@ -1,11 +1,14 @@
 -- What an insertion into a set of locators does to what it intersects.
-use Rattle.std.proofs.Common.{◌≡◌, ℕ, Bool, true, false, not, cond, if◌then◌else◌, filter, List, [], ◌∷◌, ◌++◌, ◌||◌, refl, ap, sym, ◌∙◌}
-use Rattle.hd_value.specs.Locators.{is_prefix, intersects}
-use Rattle.hd_value.specs.LocatorSets.{touches, covers, inserted, IsApart}
-use Rattle.hd_value.proofs.Prefixes.{or_false, above_intersects}
+use Rattle.std.proofs.Common.{◌≡◌, Bool, true, false, not, cond, if◌then◌else◌, filter, [], ◌∷◌, ◌++◌, ◌||◌, refl, ap, sym, ◌∙◌}
+use Rattle.hd_tokens.specs.Locators.{Locator}
+use Rattle.hd_value.specs.Locators.{intersects}
+use Rattle.hd_path.specs.Paths.{is_prefix}
+use Rattle.hd_path.proofs.NamePrefixes.{or_false}
+use Rattle.hd_value.specs.LocatorSets.{LocatorSet, touches, covers, with_locator, IsApart}
+use Rattle.hd_value.proofs.Prefixes.{above_intersects}
 
 -- what begins with the locator goes
-abbrev pub stays : List (List ℕ) → List (List ℕ) → Bool
+abbrev pub stays : Locator → Locator → Bool
 stays at member = not (is_prefix at member)
 
 or_same : (a b : Bool) → (b ≡ true → a ≡ true) → a ≡ (a || b)
@@ -21,11 +24,11 @@ or_none : (a : Bool) → (a || false) ≡ a
 or_none true = refl
 or_none false = refl
 
-pub touches-append : (xs ys : List (List (List ℕ))) (x : List (List ℕ)) → touches (xs ++ ys) x ≡ (touches xs x || touches ys x)
+pub touches-append : (xs ys : LocatorSet) (x : Locator) → touches (xs ++ ys) x ≡ (touches xs x || touches ys x)
 touches-append [] ys x = refl
 touches-append (m ∷ xs) ys x = ap (λ t. intersects m x || t) (touches-append xs ys x) ∙ sym (or_assoc (intersects m x) (touches xs x) (touches ys x))
 
-covered : (set : List (List (List ℕ))) (at x : List (List ℕ)) → covers set at ≡ true → intersects at x ≡ true → touches set x ≡ true
+covered : (set : LocatorSet) (at x : Locator) → covers set at ≡ true → intersects at x ≡ true → touches set x ≡ true
 covered [] at x c h = c
 covered (m ∷ set) at x c h =
     elim (is_prefix m at) as (λ t. is_prefix m at ≡ t → (t || covers set at) ≡ true → (intersects m x || touches set x) ≡ true) [
@@ -38,7 +41,7 @@ covered (m ∷ set) at x c h =
     or_true false = refl
 
 -- what goes intersects no more than the locator
-kept_touches : (set : List (List (List ℕ))) (at x : List (List ℕ)) → (touches (filter (stays at) set) x || intersects at x) ≡ (touches set x || intersects at x)
+kept_touches : (set : LocatorSet) (at x : Locator) → (touches (filter (stays at) set) x || intersects at x) ≡ (touches set x || intersects at x)
 kept_touches [] at x = refl
 kept_touches (m ∷ set) at x =
     let rest : (touches (filter (stays at) set) x || intersects at x) ≡ (touches set x || intersects at x) = kept_touches set at x in
@@ -53,14 +56,14 @@ kept_touches (m ∷ set) at x =
     gone true false false h = h refl
     gone false b c h = refl
 
-pub inserted_intersects : (set : List (List (List ℕ))) (at x : List (List ℕ)) → touches (inserted set at) x ≡ (touches set x || intersects at x)
+pub inserted_intersects : (set : LocatorSet) (at x : Locator) → touches (with_locator set at) x ≡ (touches set x || intersects at x)
 inserted_intersects set at x =
     elim (covers set at) as (λ t. covers set at ≡ t → touches (if t then set else filter (stays at) set ++ at ∷ []) x ≡ (touches set x || intersects at x)) [
       | true ↦ λ c. or_same (touches set x) (intersects at x) (covered set at x c)
       | false ↦ λ _. touches-append (filter (stays at) set) (at ∷ []) x ∙ ap (λ t. touches (filter (stays at) set) x || t) (or_none (intersects at x)) ∙ kept_touches set at x
     ] refl
 
-untouched-filter : (p : List (List ℕ) → Bool) (set : List (List (List ℕ))) (x : List (List ℕ)) → touches set x ≡ false → touches (filter p set) x ≡ false
+untouched-filter : (p : Locator → Bool) (set : LocatorSet) (x : Locator) → touches set x ≡ false → touches (filter p set) x ≡ false
 untouched-filter p [] x h = h
 untouched-filter p (m ∷ set) x h =
     let apart = or_false (intersects m x) (touches set x) h in
@@ -71,7 +74,7 @@ untouched-filter p (m ∷ set) x h =
     ]
 
 -- a set into which a locator goes that begins with no member
-pub apart_after : (set : List (List (List ℕ))) (at : List (List ℕ)) → IsApart set → covers set at ≡ false → IsApart (filter (λ member. not (is_prefix at member)) set ++ at ∷ [])
+pub apart_after : (set : LocatorSet) (at : Locator) → IsApart set → covers set at ≡ false → IsApart (filter (λ member. not (is_prefix at member)) set ++ at ∷ [])
 apart_after [] at h c = (refl, tt)
 apart_after (m ∷ set) at h c =
     let above = or_false (is_prefix m at) (covers set at) c in
@@ -83,10 +86,10 @@ apart_after (m ∷ set) at h c =
           (touches-append (filter (stays at) set) (at ∷ []) m ∙ ap (λ t. t || touches (at ∷ []) m) (untouched-filter (stays at) set m h.0) ∙ alone, rest)
     ] refl
 
-pub inserted_apart : (set : List (List (List ℕ))) (at : List (List ℕ)) → covers set at ≡ false → filter (λ member. not (is_prefix at member)) set ++ at ∷ [] ≡ inserted set at
+pub inserted_apart : (set : LocatorSet) (at : Locator) → covers set at ≡ false → filter (λ member. not (is_prefix at member)) set ++ at ∷ [] ≡ with_locator set at
 inserted_apart set at c = ap (λ t. if t then set else filter (stays at) set ++ at ∷ []) (sym c)
 
-pub inserted_covered : (set : List (List (List ℕ))) (at : List (List ℕ)) → covers set at ≡ true → set ≡ inserted set at
+pub inserted_covered : (set : LocatorSet) (at : Locator) → covers set at ≡ true → set ≡ with_locator set at
 inserted_covered set at c = ap (λ t. if t then set else filter (stays at) set ++ at ∷ []) (sym c)
 
 pub ruleset insertions = (apart_after, inserted_apart, inserted_covered)

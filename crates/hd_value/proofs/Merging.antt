@@ -4,22 +4,22 @@ use Rattle.std.specs.declared.cmp.Ordering.TheVariants.{Less, Equal, Greater}
 use Rattle.std.specs.FinMap.Entries.{by_order}
 use Rattle.hd_value.specs.declared.container.Entry.{Entry}
 use Rattle.hd_value.specs.declared.container.Source.{Source}
-use Rattle.hd_value.specs.Locators.{is_same, byte_order}
-use Rattle.hd_value.specs.Levels.{source_at, IsBefore, AreEntries}
+use Rattle.hd_path.specs.Names.{is_same, byte_order}
+use Rattle.hd_path.proofs.NamePrefixes.{same_text}
+use Rattle.hd_value.specs.inner.Entries.{source_at, IsBefore, AreEntries}
 use Rattle.hd_value.specs.Maps.{Map}
-use Rattle.hd_value.specs.Overlays.{merged_source, merged_at, overlaid_on, IsLaidOver}
-use Rattle.hd_value.proofs.Prefixes.{same_text}
+use Rattle.hd_value.specs.inner.Overlays.{merged_source, merged_at, overlaid_on, IsOver}
 use Rattle.hd_value.proofs.Sorting.{order_ties, none_before, before_further, below_turned}
 use Rattle.hd_value.proofs.Getting.{map_of}
 use Rattle.hd_value.proofs.Overlaying.{merged_filled, merged_level}
 
--- an entry, and the entries behind it by `rest`, merged with a level
+-- an entry, and the entries after it by `rest`, merged with a level
 abbrev pub merge_with : Entry → (List Entry → List Entry) → List Entry → List Entry
 merge_with e rest [] = e ∷ rest []
 merge_with e rest (f ∷ fs) =
     by_order (byte_order e.token f.token) (e ∷ rest (f ∷ fs)) (record { token = e.token; source = merged_source e.source f.source } ∷ rest fs) (f ∷ merge_with e rest fs)
 
--- the entries of both levels in order, the first over the second where a token stands in both
+-- the entries of both levels in order, the first over the second where a token is in both
 abbrev pub merge : List Entry → List Entry → List Entry
 merge [] fs = fs
 merge (e ∷ es) fs = merge_with e (merge es) fs
@@ -42,33 +42,33 @@ before-merge : (t : List ℕ) (es fs : List Entry) → IsBefore t es → IsBefor
 before-merge t [] fs h g = g
 before-merge t (e ∷ es) fs h g = before-merge_with e es t h.0 (λ gs. before-merge t es gs h.1) fs g
 
-module _ (e : Entry) (es : List Entry) (h : AreEntries (e ∷ es)) (rest : (fs : List Entry) → AreEntries fs → IsLaidOver es fs (merge es fs)) where
+module _ (e : Entry) (es : List Entry) (h : AreEntries (e ∷ es)) (rest : (fs : List Entry) → AreEntries fs → IsOver es fs (merge es fs)) where
   missing : (t : List ℕ) → byte_order t e.token ≡ Less → source_at t (e ∷ es) ≡ None
   missing t low = none_before t (e ∷ es) (low, before_further t e.token es low h.1)
 
-  laid-merge_with : (fs : List Entry) → AreEntries fs → IsLaidOver (e ∷ es) fs (merge_with e (merge es) fs)
+  laid-merge_with : (fs : List Entry) → AreEntries fs → IsOver (e ∷ es) fs (merge_with e (merge es) fs)
   laid-merge_with [] g = record {
     entries = (h.0, before-merge e.token es [] h.1 tt, (rest [] tt).entries);
     at_token = λ t. ap (λ o. if is_same t e.token then Some e.source else o) ((rest [] tt).at_token t ∙ merged_at-none (source_at t es)) ∙ sym (merged_at-none (source_at t (e ∷ es)));
   }
   laid-merge_with (f ∷ fs) g =
-      elim (byte_order e.token f.token) as (λ r. byte_order e.token f.token ≡ r → IsLaidOver (e ∷ es) (f ∷ fs) (by_order r (e ∷ merge es (f ∷ fs)) (record { token = e.token; source = merged_source e.source f.source } ∷ merge es fs) (f ∷ merge_with e (merge es) fs))) [
+      elim (byte_order e.token f.token) as (λ r. byte_order e.token f.token ≡ r → IsOver (e ∷ es) (f ∷ fs) (by_order r (e ∷ merge es (f ∷ fs)) (record { token = e.token; source = merged_source e.source f.source } ∷ merge es fs) (f ∷ merge_with e (merge es) fs))) [
         | Less ↦ λ is.
             let later = rest (f ∷ fs) g in
-            let behind : IsBefore e.token (f ∷ fs) = (is, before_further e.token f.token fs is g.1) in
+            let after : IsBefore e.token (f ∷ fs) = (is, before_further e.token f.token fs is g.1) in
             record {
-              entries = (h.0, before-merge e.token es (f ∷ fs) h.1 behind, later.entries);
+              entries = (h.0, before-merge e.token es (f ∷ fs) h.1 after, later.entries);
               at_token = λ t. elim (is_same t e.token) as (λ b. is_same t e.token ≡ b → (if b then Some e.source else source_at t (merge es (f ∷ fs))) ≡ merged_at (if b then Some e.source else source_at t es) (source_at t (f ∷ fs))) [
-                | true ↦ λ same. ap (merged_at (Some e.source)) (sym (ap (λ w. source_at w (f ∷ fs)) (same_text t e.token same) ∙ none_before e.token (f ∷ fs) behind))
+                | true ↦ λ same. ap (merged_at (Some e.source)) (sym (ap (λ w. source_at w (f ∷ fs)) (same_text t e.token same) ∙ none_before e.token (f ∷ fs) after))
                 | false ↦ λ _. later.at_token t
               ] refl;
             }
         | Equal ↦ λ is.
             let later = rest fs g.2 in
             let tie : e.token ≡ f.token = order_ties e.token f.token is in
-            let behind : IsBefore e.token fs = subst (λ (w : List ℕ). IsBefore w fs) (sym tie) g.1 in
+            let after : IsBefore e.token fs = subst (λ (w : List ℕ). IsBefore w fs) (sym tie) g.1 in
             record {
-              entries = (merged_filled e.source f.source h.0 g.0, before-merge e.token es fs h.1 behind, later.entries);
+              entries = (merged_filled e.source f.source h.0 g.0, before-merge e.token es fs h.1 after, later.entries);
               at_token = λ t. elim (is_same t e.token) as (λ b. (if b then Some (merged_source e.source f.source) else source_at t (merge es fs)) ≡ merged_at (if b then Some e.source else source_at t es) (if b then Some f.source else source_at t fs)) [ true ↦ refl | false ↦ later.at_token t ]
                   ∙ ap (λ w. merged_at (source_at t (e ∷ es)) (if is_same t w then Some f.source else source_at t fs)) tie;
             }
@@ -85,15 +85,15 @@ module _ (e : Entry) (es : List Entry) (h : AreEntries (e ∷ es)) (rest : (fs :
       ] refl
 
 -- the merged entries are those of one level over the other
-pub laid-merge : (es fs : List Entry) → AreEntries es → AreEntries fs → IsLaidOver es fs (merge es fs)
+pub laid-merge : (es fs : List Entry) → AreEntries es → AreEntries fs → IsOver es fs (merge es fs)
 laid-merge [] fs h g = record { entries = g; at_token = λ t. refl }
 laid-merge (e ∷ es) fs h g = laid-merge_with e es h (λ gs. laid-merge es gs h.2) fs g
 
 -- nothing over a level, and a level over nothing
-pub laid-nothing_over : (fs : List Entry) → AreEntries fs → IsLaidOver [] fs fs
+pub laid-nothing_over : (fs : List Entry) → AreEntries fs → IsOver [] fs fs
 laid-nothing_over fs g = record { entries = g; at_token = λ t. refl }
 
-pub laid-over_nothing : (es : List Entry) → AreEntries es → IsLaidOver es [] es
+pub laid-over_nothing : (es : List Entry) → AreEntries es → IsOver es [] es
 laid-over_nothing es h = record { entries = h; at_token = λ t. sym (merged_at-none (source_at t es)) }
 
 no_entries : (es : List Entry) → length es ≡ 0 → es ≡ []
@@ -111,7 +111,7 @@ pub over_nothing : (m n : Map) (es fs : List Entry) → m ≡ map_of es → n �
 over_nothing m n es fs is under h none =
     is ∙ merged_level es [] es h tt (laid-over_nothing es h) ∙ ap (λ k. overlaid_on k (map_of [])) (sym is) ∙ ap (overlaid_on m) (sym (under ∙ ap map_of (no_entries fs none)))
 
-pub over_level : (m n : Map) (es fs all : List Entry) → m ≡ map_of es → n ≡ map_of fs → AreEntries es → AreEntries fs → IsLaidOver es fs all → map_of all ≡ overlaid_on m n
+pub over_level : (m n : Map) (es fs all : List Entry) → m ≡ map_of es → n ≡ map_of fs → AreEntries es → AreEntries fs → IsOver es fs all → map_of all ≡ overlaid_on m n
 over_level m n es fs all is under h g laid = merged_level es fs all h g laid ∙ ap (λ k. overlaid_on k (map_of fs)) (sym is) ∙ ap (overlaid_on m) (sym under)
 
 merge-nothing : (es : List Entry) → merge es [] ≡ es

@@ -10,9 +10,9 @@ use Rattle.std.specs.FinMap.{slice_cmp-IsAntisymmetric, nat_cmp-IsAntisymmetric}
 use Rattle.std.proofs.lemmas.Cmp.{tied_itself}
 use Rattle.hd_value.specs.declared.container.Entry.{Entry}
 use Rattle.hd_value.specs.declared.container.Source.{Source}
-use Rattle.hd_value.specs.Locators.{is_same, byte_order}
-use Rattle.hd_value.specs.Levels.{source_at, placed, IsFilled, IsBefore, IsPlace, IsGap, AreEntries}
-use Rattle.hd_value.proofs.Prefixes.{same_text, same_itself}
+use Rattle.hd_path.specs.Names.{is_same, byte_order}
+use Rattle.hd_path.proofs.NamePrefixes.{same_text, same_itself}
+use Rattle.hd_value.specs.inner.Entries.{source_at, entries_with, IsFilled, IsBefore, IsPlace, IsGap, AreEntries}
 
 -- the order of tokens
 
@@ -54,7 +54,7 @@ order_rises a b t e =
     highest Equal = omega arith
     highest Greater = omega arith
 
--- entries behind a token
+-- entries after a token
 
 pub none_before : (t : List ℕ) (es : List Entry) → IsBefore t es → source_at t es ≡ None
 none_before t [] h = refl
@@ -150,7 +150,7 @@ joined_entries : (xs : List Entry) (y : Entry) (ys : List Entry) → AreEntries 
 joined_entries [] y ys h b g = g
 joined_entries (x ∷ xs) y ys h b g = (h.0, before-append x.token xs (y ∷ ys) h.1 (b.0, before_further x.token y.token ys b.0 g.1), joined_entries xs y ys h.2 b.1 g)
 
-pub placed_entries : (t : List ℕ) (s : Source) (es : List Entry) → AreEntries es → IsFilled s → AreEntries (placed t s es)
+pub placed_entries : (t : List ℕ) (s : Source) (es : List Entry) → AreEntries es → IsFilled s → AreEntries (entries_with t s es)
 placed_entries t s es h f =
     joined_entries (under t es) (record { token = t; source = s }) (above t es) (entries-filter (λ e. is_lt (byte_order e.token t)) es h) (under_below t es) (f, above_before t es, entries-filter (λ e. is_gt (byte_order e.token t)) es h)
 
@@ -173,9 +173,9 @@ source_at-append_first t (x ∷ xs) ys o none is =
       | false ↦ λ later. source_at-append_first t xs ys o none later
     ] is
 
-pub source_at-placed : (t : List ℕ) (s : Source) (u : List ℕ) (es : List Entry) → source_at u (placed t s es) ≡ (if is_same u t then Some s else source_at u es)
+pub source_at-placed : (t : List ℕ) (s : Source) (u : List ℕ) (es : List Entry) → source_at u (entries_with t s es) ≡ (if is_same u t then Some s else source_at u es)
 source_at-placed t s u es =
-    elim (byte_order u t) as (λ r. byte_order u t ≡ r → source_at u (placed t s es) ≡ (if is_same u t then Some s else source_at u es)) [
+    elim (byte_order u t) as (λ r. byte_order u t ≡ r → source_at u (entries_with t s es) ≡ (if is_same u t then Some s else source_at u es)) [
       | Less ↦ λ is.
           let apart : is_same u t ≡ false = below_apart u t is in
           source_at-append_first u (under t es) (record { token = t; source = s } ∷ above t es) (source_at u es)
@@ -205,7 +205,7 @@ at_place t (e ∷ es) (suc i) d h l is =
     let further : byte_order e.token t ≡ Less = subst (λ (w : List ℕ). byte_order e.token w ≡ Less) is (before_get e.token es i d h.1 (omega arith)) in
     ap (λ b. if b then Some e.source else source_at t es) (above_apart t e.token (above_turned e.token t further)) ∙ at_place t es i d h.2 (omega arith) is
 
-pub set_place : (t : List ℕ) (s : Source) (es : List Entry) (i : ℕ) (d : Entry) → AreEntries es → i < length es → (get_or es i d).token ≡ t → set es i (record { token = t; source = s }) ≡ placed t s es
+pub set_place : (t : List ℕ) (s : Source) (es : List Entry) (i : ℕ) (d : Entry) → AreEntries es → i < length es → (get_or es i d).token ≡ t → set es i (record { token = t; source = s }) ≡ entries_with t s es
 set_place t s [] i d h l is = absurd (omega arith)
 set_place t s (e ∷ es) zero d h l is =
     let here : byte_order e.token t ≡ Equal = subst (λ (w : List ℕ). byte_order e.token w ≡ Equal) is (order_itself e.token) in
@@ -227,7 +227,7 @@ all_over t s (e ∷ es) h =
     let here : byte_order e.token t ≡ Greater = h 0 e (omega arith) in
     (ap (λ r. cond (is_lt r) (e ∷ under t es) (under t es)) here ∙ rest.0, ap (λ r. cond (is_gt r) (e ∷ above t es) (above t es)) here ∙ ap (λ fs. e ∷ fs) rest.1)
 
-pub insert_gap : (t : List ℕ) (s : Source) (es : List Entry) (i : ℕ) → IsGap t es i → insert es i (record { token = t; source = s }) ≡ placed t s es
+pub insert_gap : (t : List ℕ) (s : Source) (es : List Entry) (i : ℕ) → IsGap t es i → insert es i (record { token = t; source = s }) ≡ entries_with t s es
 insert_gap t s [] zero g = refl
 insert_gap t s [] (suc i) g = absurd (omega (arith, g.in_range))
 insert_gap t s (e ∷ es) zero g =

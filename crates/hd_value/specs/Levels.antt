@@ -1,87 +1,31 @@
 -- A container is kept as levels: the tokens of one level in byte order, each with a value or a further container.
-use Rattle.std.specs.Prelude.{◌≡◌, ◌≢◌, ℕ, ◌<◌, ◌≤◌, if◌then◌else◌, List, [], ◌∷◌, ◌++◌, length, map, filter, slice_index_or, Option, Some, None}
-use Rattle.std.specs.List.{AllWithin}
-use Rattle.std.specs.Ordering.{is_lt, is_gt}
-use Rattle.std.specs.declared.cmp.Ordering.TheVariants.{Less, Greater}
+use Rattle.std.specs.Prelude.{List, [], ◌∷◌, ◌++◌, map, Option, Some, None}
 use Rattle.std.specs.declared.sync.Arc.{Arc}
 use Rattle.std.specs.declared.vec.Vec.{Vec}
 use Rattle.std.specs.declared.alloc.Global.{Global}
-use Rattle.std.specs.FinMap.{entries, from_entries, empty, get}
+use Rattle.std.specs.FinMap.{entries, from_entries}
+use Rattle.hd_path.specs.Names.{Name}
+use Rattle.hd_tokens.specs.Locators.{Locator}
 use Rattle.hd_value.specs.declared.value.Value.{Value}
 use Rattle.hd_value.specs.declared.container.Entry.{Entry}
 use Rattle.hd_value.specs.declared.container.Source.{Source}
 use Rattle.hd_value.specs.declared.container.Source.TheVariants.{Inner, Leaf}
-use Rattle.hd_value.specs.Locators.{is_same, byte_order}
-use Rattle.hd_value.specs.Maps.{Map, set_at, IsPrefixFree}
+use Rattle.hd_value.specs.Maps.{Map}
 
--- the values of a source that stands at a token
-abbrev pub values_at : List ℕ → Source → List (List (List ℕ) × Value)
+-- the values of a source that is at a token
+abbrev pub values_at : Name → Source → List (Locator × Value)
 values_at token (Leaf value) = (token ∷ [], value) ∷ []
 values_at token (Inner inner) = map (λ e. (token ∷ e.0, e.1)) (entries inner)
 
 -- the values of a level
-abbrev pub values_of : List Entry → List (List (List ℕ) × Value)
+abbrev pub values_of : List Entry → List (Locator × Value)
 values_of [] = []
 values_of (e ∷ es) = values_at e.token e.source ++ values_of es
 
 -- the entries that are held, where nothing is the empty level
-abbrev pub held : Option (Arc (Vec Entry Global) Global) → List Entry
-held None = []
-held (Some level) = level.value.items
+abbrev pub entries_in : Option (Arc (Vec Entry Global) Global) → List Entry
+entries_in None = []
+entries_in (Some level) = level.value.items
 
 abbrev pub level_map : Option (Arc (Vec Entry Global) Global) → Map
-level_map level = from_entries (values_of (held level))
-
--- the source of the first entry with this token
-abbrev pub source_at : List ℕ → List Entry → Option Source
-source_at token [] = None
-source_at token (e ∷ es) = if is_same token e.token then Some e.source else source_at token es
-
--- the entries with a source in place of what stood at the token, between the entries before it and those after it
-abbrev pub placed : List ℕ → Source → List Entry → List Entry
-placed token source es = filter (λ e. is_lt (byte_order e.token token)) es ++ record { token = token; source = source } ∷ filter (λ e. is_gt (byte_order e.token token)) es
-
--- the values below a token, of which a leaf there has none
-abbrev pub inside : Option Source → Map
-inside (Some (Inner inner)) = inner
-inside (Some (Leaf value)) = empty
-inside None = empty
-
--- what stood at a token, after a value was put at what is left of the value's locator
-abbrev pub source_with : Option Source → List (List ℕ) → Value → Source
-source_with old [] value = Leaf value
-source_with old (token ∷ at) value = Inner (set_at (inside old) (token ∷ at) value)
-
--- the entry with this number has the token
-pub record IsPlace (token : List ℕ) (es : List Entry) (i : ℕ) : Type 0 where
-  pub in_range : i < length es
-  pub has_token : (d : Entry) → (slice_index_or es i d).token ≡ token
-
--- an entry with the token would get this number: the tokens before are below it, and the others above
-pub record IsGap (token : List ℕ) (es : List Entry) (i : ℕ) : Type 0 where
-  pub in_range : i ≤ length es
-  pub below : AllWithin (λ e. byte_order e.token token ≡ Less) es 0 i
-  pub above : AllWithin (λ e. byte_order e.token token ≡ Greater) es i (length es)
-
--- a container inside another one has a value, none at the empty locator, and none above another
-pub record IsInner (inner : Map) : Type 0 where
-  pub filled : inner ≢ empty
-  pub rootless : get inner [] ≡ None
-  pub prefix_free : IsPrefixFree inner
-
-abbrev pub IsFilled : Source → Type 0
-IsFilled (Leaf value) = Unit {0}
-IsFilled (Inner inner) = IsInner inner
-
--- the token comes before those of the entries
-abbrev pub IsBefore : List ℕ → List Entry → Type 0
-IsBefore token [] = Unit {0}
-IsBefore token (e ∷ es) = (byte_order token e.token ≡ Less) × IsBefore token es
-
--- the tokens ascend, and no source is empty
-abbrev pub AreEntries : List Entry → Type 0
-AreEntries [] = Unit {0}
-AreEntries (e ∷ es) = IsFilled e.source × IsBefore e.token es × AreEntries es
-
-abbrev pub IsLevel : Option (Arc (Vec Entry Global) Global) → Type 0
-IsLevel level = AreEntries (held level)
+level_map level = from_entries (values_of (entries_in level))

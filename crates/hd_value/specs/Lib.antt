@@ -2,10 +2,8 @@ pub mod Locators
 pub mod LocatorSets
 pub mod Maps
 pub mod Levels
-pub mod Overlays
 pub mod Containers
-pub mod Depths
-pub mod Falls
 pub mod Laws
 pub mod Groups
 pub mod Schema
+pub mod inner

@@ -1,5 +1,5 @@
 -- Which values may be at which locators.
-use Rattle.std.specs.Prelude.{◌≡◌, ℕ, Bool, true, false, ◌&&◌, ◌||◌, nat_eq, List, [], ◌∷◌, codes, Some, IsTrue}
+use Rattle.std.specs.Prelude.{◌≡◌, Bool, true, false, ◌&&◌, ◌||◌, nat_eq, List, [], ◌∷◌, codes, Some, IsTrue}
 use Rattle.std.specs.List.{list_all, list_any}
 use Rattle.std.specs.Str.{bytes_eq}
 use Rattle.std.specs.FinMap.{get}
@@ -12,16 +12,17 @@ use Rattle.hd_tokens.specs.Names.{is_any}
 use Rattle.hd_tokens.specs.Properties.{first_part, visibilities, purposes, is_op_entry}
 use Rattle.hd_value.specs.declared.value.Value.{Value}
 use Rattle.hd_value.specs.declared.value.Value.TheVariants.{Token, Tokens, Ints, Vecs, Color, Colors, Paths, Op, Matrix, Out, Flag}
-use Rattle.hd_value.specs.Locators.{is_prefix}
+use Rattle.hd_path.specs.Names.{Name}
+use Rattle.hd_path.specs.Paths.{is_prefix}
 use Rattle.hd_value.specs.Maps.{Map}
 
 -- a token that is one of these words
-abbrev pub is_word_of : List (List ℕ) → Value → Bool
+abbrev pub is_word_of : List Name → Value → Bool
 is_word_of words (Token t) = is_any words t
 is_word_of words _ = false
 
 -- the kind of an op
-abbrev pub kind_of : ops.Op → List ℕ
+abbrev pub kind_of : ops.Op → Name
 kind_of (Translate by) = codes "translate"
 kind_of (Scale by) = codes "scale"
 kind_of (Rotate X turns) = codes "rotateX"

@@ -1,18 +1,23 @@
 //! Values by locator.
 
-ghost use Rattle.std.specs.Prelude.{◌≡◌, ◌≢◌, ◌↔◌, IsTrue, ℕ, List, [], ◌∷◌, ◌++◌, map, IfOk, IfErr, OnOk, OnErr};
+ghost use Rattle.std.specs.Prelude.{◌≡◌, ◌≢◌, ◌↔◌, ◌≤◌, IsTrue, [], ◌∷◌, length, map, None, IfOk, IfErr, OnOk, OnErr};
+ghost use Rattle.std.specs.List.{insert};
 ghost use Rattle.std.specs.FinMap.{empty, get, from_entries};
 ghost use Rattle.std.specs.Option.{option_copied};
+ghost use Rattle.hd_tokens.specs.Locators;
 ghost use Rattle.hd_tokens.specs.Tables.{texts};
-ghost use Rattle.hd_value.specs.Containers.{found};
-ghost use Rattle.hd_value.specs.Locators.{byte_order};
-ghost use Rattle.hd_value.specs.Levels.{values_of, source_at, placed, inside, source_with, IsPlace, IsGap, AreEntries};
-ghost use Rattle.hd_value.specs.Overlays.{merged_source, overlaid_on, IsLaidOver};
+ghost use Rattle.hd_value.specs.Containers.{lookup};
+ghost use Rattle.hd_path.specs.Names.{byte_order};
+ghost use Rattle.hd_value.specs.Levels.{values_of};
+ghost use Rattle.hd_value.specs.inner.Entries.{source_at, entry_at, entries_with, map_of_source, source_with, IsPlace, IsGap, AreEntries};
 ghost use Rattle.hd_value.specs.Maps.{Map, set_at, overlaid_at, IsFree, IsPrefixFree};
+
+mod overlaying;
 
 use crate::element::{Element, LocatorText};
 use crate::locator::Locator;
 use crate::value::Value;
+use overlaying::container_over;
 use std::alloc::{AllocError, Global};
 use std::cmp::Ordering;
 use std::marker::Model;
@@ -49,8 +54,9 @@ impl Model for Container {
 
     ghost coded = { map_code };
 
-    ghost use Rattle.hd_value.specs.Levels.{level_map, IsLevel};
-    ghost use Rattle.hd_value.specs.Depths.{depth};
+    ghost use Rattle.hd_value.specs.Levels.{level_map};
+    ghost use Rattle.hd_value.specs.inner.Entries.{IsLevel};
+    ghost use Rattle.hd_value.specs.inner.Depths.{depth};
 
     ghost view = { λ c. level_map c.level };
 
@@ -58,7 +64,7 @@ impl Model for Container {
 
     ghost size = { depth };
 
-    ghost use Rattle.hd_value.specs.Falls.{inner_falls};
+    ghost use Rattle.hd_value.specs.inner.Falls.{inner_falls};
 
     ghost size_decreases = { inner_falls };
 }
@@ -73,14 +79,14 @@ impl Container {
 
     /// What is at a locator: a value, the values below it, or nothing. The empty locator has nothing.
     pub fn get(&self, at: &Locator) -> Option<&Source>
-        ensures { option_copied result ≡ found self.now at.now }
+        ensures { option_copied result ≡ lookup self.now at.now }
     {
         look(self, at.elements())
     }
 
     /// What is at the locator of these tokens. Asking takes no memory.
     pub fn get_at(&self, tokens: &[&str]) -> Option<&Source>
-        ensures { option_copied result ≡ found self.now (texts tokens.now) }
+        ensures { option_copied result ≡ lookup self.now (texts tokens.now) }
     {
         look(self, tokens)
     }
@@ -89,7 +95,7 @@ impl Container {
     pub fn is_free(&self, at: &Locator) -> bool
         ensures { IsTrue result ↔ IsFree self.now at.now }
     {
-        is_free_behind(self, at.elements())
+        is_free_after(self, at.elements())
     }
 
     /// Puts a value at a locator, in place of what was at or below it. Refused it changes nothing.
@@ -122,7 +128,7 @@ impl Container {
     /// The values of all parts, of which the first is the strongest: a value is kept exactly where no earlier part has a
     /// value at a locator that intersects its own.
     pub fn overlay(alloc: Global, parts: &[&Container]) -> Result<Container, AllocError>
-        ensures { IfOk result (λ whole. (at : List (List ℕ)) → get whole at ≡ overlaid_at (map (λ part. part.now) parts.now) at) }
+        ensures { IfOk result (λ whole. (at : Locators.Locator) → get whole at ≡ overlaid_at (map (λ part. part.now) parts.now) at) }
     {
         let mut left = parts.len();
         if left == 0 {
@@ -132,7 +138,7 @@ impl Container {
         let mut whole = parts[left].copy()?;
         while left > 0 {
             left -= 1;
-            whole = laid_over(parts[left], alloc, &whole)?;
+            whole = container_over(parts[left], alloc, &whole)?;
         }
         Ok(whole)
     }
@@ -218,7 +224,7 @@ fn source_in<'a>(entries: &'a [Entry], token: &str) -> Option<&'a Source>
 /// What is at the locator of these tokens.
 #[tactic(auto, using(crate::proofs::Getting::found_level))]
 fn look<'a, T: LocatorText>(container: &'a Container, tokens: &[T]) -> Option<&'a Source>
-    ensures { option_copied result ≡ found container.now (map T.bytes tokens.now) }
+    ensures { option_copied result ≡ lookup container.now (map T.bytes tokens.now) }
 {
     let (first, rest) = tokens.split_first()?;
     let source = source_in(container.entries(), first.as_text())?;
@@ -232,7 +238,7 @@ fn look<'a, T: LocatorText>(container: &'a Container, tokens: &[T]) -> Option<&'
 }
 
 /// Whether no value of the container is above what these tokens name.
-fn is_free_behind(container: &Container, tokens: &[Element]) -> bool
+fn is_free_after(container: &Container, tokens: &[Element]) -> bool
     ensures { IsTrue result ↔ IsFree container.now tokens.now }
 {
     match tokens.split_first() {
@@ -240,7 +246,7 @@ fn is_free_behind(container: &Container, tokens: &[Element]) -> bool
         Some((first, rest)) => match source_in(container.entries(), first.text()) {
             None => true,
             Some(Source::Leaf(_)) => rest.is_empty(),
-            Some(Source::Inner(inner)) => is_free_behind(inner, rest),
+            Some(Source::Inner(inner)) => is_free_after(inner, rest),
         },
     }
 }
@@ -261,10 +267,7 @@ fn put(
 {
     match &mut container.level {
         Some(level) => put_in(Arc::make_mut(level)?, alloc, first, rest, value),
-        None => {
-            *container = container_with(alloc, first, rest, value)?;
-            Ok(())
-        }
+        None => fill(container, alloc, first, rest, value),
     }
 }
 
@@ -279,7 +282,7 @@ fn put_in(
 ) -> Result<(), AllocError>
     requires entries { AreEntries entries.old.items }
     requires free { IsFree (from_entries (values_of entries.old.items)) (first.now ∷ rest.now) }
-    ensures ok { OnOk result (entries.new.items ≡ placed first.now (source_with (source_at first.now entries.old.items) rest.now value) entries.old.items) }
+    ensures ok { OnOk result (entries.new.items ≡ entries_with first.now (source_with (source_at first.now entries.old.items) rest.now value) entries.old.items) }
     ensures err { OnErr result (entries.new.items ≡ entries.old.items) }
 {
     match place_of(entries, first.text()) {
@@ -287,14 +290,7 @@ fn put_in(
             let entry = &mut entries[i];
             put_at(&mut entry.source, alloc, rest, value)
         }
-        Err(i) => {
-            let added = Entry {
-                token: first.copy()?,
-                source: source_of(alloc, rest, value)?,
-            };
-            entries.insert(i, added)?;
-            Ok(())
-        }
+        Err(i) => insert_entry(entries, i, first, source_of(alloc, rest, value)?),
     }
 }
 
@@ -306,24 +302,72 @@ fn put_at(
     rest: &[Element],
     value: Value,
 ) -> Result<(), AllocError>
-    requires { IsFree (inside (Some source.old)) rest.now }
+    requires { IsFree (map_of_source (Some source.old)) rest.now }
     ensures ok { OnOk result (source.new ≡ source_with (Some source.old) rest.now value) }
     ensures err { OnErr result (source.new ≡ source.old) }
 {
     match rest.split_first() {
-        None => {
-            *source = Source::Leaf(value);
-            Ok(())
-        }
+        None => replace(source, alloc, rest, value),
         Some((first, more)) => match source {
             Source::Inner(inner) => put(inner, alloc, first, more, value),
             // No caller comes here: no value is above the locator.
-            Source::Leaf(_) => {
-                *source = Source::Inner(container_with(alloc, first, more, value)?);
-                Ok(())
-            }
+            Source::Leaf(_) => replace(source, alloc, rest, value),
         },
     }
+}
+
+/// Puts a value into a container, in place of all its values.
+fn fill(
+    container: &mut Container,
+    alloc: Global,
+    first: &Element,
+    rest: &[Element],
+    value: Value,
+) -> Result<(), AllocError>
+    ensures ok { OnOk result (container.new ≡ set_at empty (first.now ∷ rest.now) value) }
+    ensures err { OnErr result (container.new ≡ container.old) }
+{
+    *container = container_with(alloc, first, rest, value)?;
+    Ok(())
+}
+
+/// Puts a value in place of a source, at what is left of its locator.
+fn replace(
+    source: &mut Source,
+    alloc: Global,
+    rest: &[Element],
+    value: Value,
+) -> Result<(), AllocError>
+    ensures ok { OnOk result (source.new ≡ source_with None rest.now value) }
+    ensures err { OnErr result (source.new ≡ source.old) }
+{
+    *source = source_of(alloc, rest, value)?;
+    Ok(())
+}
+
+/// Puts an entry at a place among others.
+fn insert_entry(
+    entries: &mut Vec<Entry>,
+    i: usize,
+    token: &Element,
+    source: Source,
+) -> Result<(), AllocError>
+    requires { i ≤ length entries.old.items }
+    ensures ok { OnOk result (entries.new.items ≡ insert entries.old.items i (entry_at token.now source)) }
+    ensures err { OnErr result (entries.new.items ≡ entries.old.items) }
+{
+    entries.insert(i, entry_at(token, source)?)?;
+    Ok(())
+}
+
+/// The entry of a token and its source.
+fn entry_at(token: &Element, source: Source) -> Result<Entry, AllocError>
+    ensures { IfOk result (λ entry. entry ≡ entry_at token.now source) }
+{
+    Ok(Entry {
+        token: token.copy()?,
+        source,
+    })
 }
 
 /// The source with this value alone, at what is left of its locator.
@@ -347,98 +391,22 @@ fn container_with(
 ) -> Result<Container, AllocError>
     ensures { IfOk result (λ container. container ≡ set_at empty (first.now ∷ rest.now) value) }
 {
-    let only = Entry {
-        token: first.copy()?,
-        source: source_of(alloc, rest, value)?,
-    };
-    let mut entries = Vec::with_capacity(alloc, 1)?;
-    entries.push(only)?;
-    Container::of_entries(alloc, entries)
+    let source = source_of(alloc, rest, value)?;
+    of_entry(alloc, entry_at(first, source)?)
+}
+
+/// The container whose outermost level has this entry alone.
+fn of_entry(alloc: Global, entry: Entry) -> Result<Container, AllocError>
+    requires { AreEntries (entry ∷ []) }
+    ensures { IfOk result (λ container. container ≡ from_entries (values_of (entry ∷ []))) }
+{
+    Container::of_entries(alloc, Vec::from_array(alloc, [entry])?)
 }
 
 impl Clone for Entry {
     ghost is_clone = { λ entry copied. copied ≡ entry };
 
     fn clone(&self) -> Result<Entry, AllocError> {
-        Ok(Entry {
-            token: self.token.copy()?,
-            source: self.source.copy()?,
-        })
-    }
-}
-
-/// The container over another one: the values of the other that intersect none of this one's come in. A level that
-/// only one of the two has is shared.
-#[cycle(overlay)]
-fn laid_over(strong: &Container, alloc: Global, weak: &Container) -> Result<Container, AllocError>
-    ensures { IfOk result (λ whole. whole ≡ overlaid_on strong.now weak.now) }
-{
-    let over = strong.entries();
-    let under = weak.entries();
-    if over.is_empty() {
-        return weak.copy();
-    }
-    if under.is_empty() {
-        return strong.copy();
-    }
-    let all = merged(over, alloc, under)?;
-    Container::of_entries(alloc, all)
-}
-
-/// The entries of both levels in one pass, the first over the second where a token is in both.
-#[cycle(overlay)]
-fn merged(over: &[Entry], alloc: Global, under: &[Entry]) -> Result<Vec<Entry>, AllocError>
-    requires over { AreEntries over.now }
-    requires under { AreEntries under.now }
-    ensures { IfOk result (λ all. IsLaidOver over.now under.now all.items) }
-{
-    let mut all = Vec::with_capacity(alloc, over.len().max(under.len()))?;
-    let mut i = 0;
-    let mut j = 0;
-    while i < over.len() && j < under.len() {
-        match over[i].token.compare(&under[j].token) {
-            Ordering::Less => {
-                all.push(over[i].clone()?)?;
-                i += 1;
-            }
-            Ordering::Greater => {
-                all.push(under[j].clone()?)?;
-                j += 1;
-            }
-            Ordering::Equal => {
-                all.push(Entry {
-                    token: over[i].token.copy()?,
-                    source: source_over(&over[i].source, alloc, &under[j].source)?,
-                })?;
-                i += 1;
-                j += 1;
-            }
-        }
-    }
-    append_copies(&mut all, &over[i..])?;
-    append_copies(&mut all, &under[j..])?;
-    Ok(all)
-}
-
-/// Adds copies of the entries at the end.
-fn append_copies(all: &mut Vec<Entry>, entries: &[Entry]) -> Result<(), AllocError>
-    ensures { OnOk result (all.new.items ≡ all.old.items ++ entries.now) }
-{
-    for entry in entries {
-        all.push(entry.clone()?)?;
-    }
-    Ok(())
-}
-
-/// A source over another one at the same token.
-#[cycle(overlay)]
-fn source_over(strong: &Source, alloc: Global, weak: &Source) -> Result<Source, AllocError>
-    ensures { IfOk result (λ source. source ≡ merged_source strong.now weak.now) }
-{
-    match (strong, weak) {
-        (Source::Inner(inner), Source::Inner(below)) => {
-            Ok(Source::Inner(laid_over(inner, alloc, below)?))
-        }
-        _ => strong.copy(),
+        entry_at(&self.token, self.source.copy()?)
     }
 }

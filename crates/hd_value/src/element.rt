@@ -3,7 +3,7 @@
 ghost use Rattle.std.specs.Prelude.{◌≡◌, [], nat_eq, IfOk};
 ghost use Rattle.std.specs.Cmp;
 ghost use Rattle.std.specs.Cmp.Lexicographic.{pointwise, nat_list_eq_equiv};
-ghost use Rattle.hd_value.specs.Locators.{byte_order};
+ghost use Rattle.hd_path.specs.Names.{byte_order};
 
 use hd_path::Token;
 use std::alloc::{AllocError, Global};
@@ -12,9 +12,9 @@ use std::marker::Model;
 
 /// A text of a locator that is looked up.
 pub(crate) trait LocatorText {
-    ghost use Rattle.std.specs.Prelude.{List, ℕ};
+    ghost use Rattle.hd_path.specs.Names.{Name};
 
-    ghost bytes: { Self → List ℕ };
+    ghost bytes: { Self → Name };
 
     fn as_text(&self) -> &str
         ensures { result.now ≡ bytes self.now };
@@ -35,10 +35,10 @@ pub struct Element {
 }
 
 impl Model for Element {
-    ghost use Rattle.std.specs.Prelude.{List, ℕ};
+    ghost use Rattle.hd_path.specs.Names.{Name};
     ghost use Rattle.hd_value.specs.Locators.{bytes_of};
 
-    ghost Value = { List ℕ };
+    ghost Value = { Name };
 
     ghost view = { λ element. bytes_of element.text };
 }

@@ -1,6 +1,6 @@
 //! The groups of values that change together.
 
-ghost use Rattle.std.specs.Prelude.{◌≡◌, IfOk};
+ghost use Rattle.std.specs.Prelude.{◌≡◌, ◌++◌, [], ◌∷◌, IfOk, OnOk};
 ghost use Rattle.hd_tokens.specs.Tables.{texts};
 ghost use Rattle.hd_value.specs.Groups.{locator_of_group, locators_before_flattening};
 
@@ -57,16 +57,16 @@ impl Group {
     {
         let mut authored = Vec::with_capacity(alloc, 2)?;
         if self == Group::Color {
-            authored.push(Locator::fixed(alloc, locators::COLOR8)?)?;
-            authored.push(Locator::fixed(alloc, locators::DISPLAY_COLOR)?)?;
+            push(&mut authored, alloc, locators::COLOR8)?;
+            push(&mut authored, alloc, locators::DISPLAY_COLOR)?;
         } else {
-            authored.push(self.locator(alloc)?)?;
+            push(&mut authored, alloc, self.tokens())?;
         }
         Ok(authored)
     }
 
     /// The tokens of the locator.
-    fn tokens(self) -> &'static [&'static str]
+    pub fn tokens(self) -> &'static [&'static str]
         ensures { texts result.now ≡ locator_of_group self }
     {
         match self {
@@ -82,4 +82,16 @@ impl Group {
             Group::MaterialColor => locators::MATERIAL,
         }
     }
+}
+
+/// Adds the locator of these tokens at the end.
+fn push(
+    locators: &mut Vec<Locator>,
+    alloc: Global,
+    tokens: &'static [&'static str],
+) -> Result<(), AllocError>
+    ensures { OnOk result (locators.new.items ≡ locators.old.items ++ texts tokens.now ∷ []) }
+{
+    locators.push(Locator::fixed(alloc, tokens)?)?;
+    Ok(())
 }

@@ -1,8 +1,9 @@
 //! Places in a container.
 
-ghost use Rattle.std.specs.Prelude.{◌≡◌, ◌<◌, length, slice_index_or, [], IfOk};
+ghost use Rattle.std.specs.Prelude.{◌≡◌, ◌<◌, ◌++◌, length, slice_index_or, [], IfOk, OnOk};
 ghost use Rattle.hd_tokens.specs.Tables.{texts};
-ghost use Rattle.hd_value.specs.Locators.{is_prefix, intersects};
+ghost use Rattle.hd_value.specs.Locators.{intersects};
+ghost use Rattle.hd_path.specs.Paths.{is_prefix};
 
 use crate::element::Element;
 use smallvec::SmallVec;
@@ -19,9 +20,9 @@ pub struct Locator {
 }
 
 impl Model for Locator {
-    ghost use Rattle.std.specs.Prelude.{List, ℕ};
+    ghost use Rattle.hd_tokens.specs.Locators;
 
-    ghost Value = { List (List ℕ) };
+    ghost Value = { Locators.Locator };
 
     ghost view = { λ locator. locator.tokens.items };
 }
@@ -32,9 +33,7 @@ impl Locator {
         ensures { IfOk result (λ locator. locator ≡ texts tokens.now) }
     {
         let mut kept = SmallVec::with_capacity(alloc, tokens.len())?;
-        for token in tokens {
-            kept.push(Element::new(alloc, token)?)?;
-        }
+        push_texts(&mut kept, alloc, tokens)?;
         Ok(Locator { tokens: kept })
     }
 
@@ -71,8 +70,15 @@ impl Locator {
         self.is_prefix_of(other) || other.is_prefix_of(self)
     }
 
+    /// Whether the locator begins with these tokens, or they with it.
+    pub fn intersects_at(&self, tokens: &[&str]) -> bool
+        ensures { result ≡ intersects self.now (texts tokens.now) }
+    {
+        intersects_at(self.elements(), tokens)
+    }
+
     /// Whether the other locator begins with this one.
-    #[tactic(auto, using(crate::proofs::Prefixes::starts_with_is_prefix))]
+    #[tactic(auto, using(hd_path::proofs::NamePrefixes::starts_with_is_prefix))]
     pub fn is_prefix_of(&self, other: &Locator) -> bool
         ensures { result ≡ is_prefix self.now other.now }
     {
@@ -85,9 +91,7 @@ impl Locator {
     {
         let elements = self.elements();
         let mut kept = SmallVec::with_capacity(alloc, elements.len())?;
-        for element in elements {
-            kept.push(element.copy()?)?;
-        }
+        push_copies(&mut kept, elements)?;
         Ok(Locator { tokens: kept })
     }
 
@@ -97,4 +101,44 @@ impl Locator {
     {
         self.tokens.as_slice()
     }
+}
+
+/// Adds tokens of these texts at the end.
+fn push_texts(
+    kept: &mut SmallVec<Element, INLINE_TOKENS>,
+    alloc: Global,
+    tokens: &[&str],
+) -> Result<(), AllocError>
+    ensures { OnOk result (kept.new.items ≡ kept.old.items ++ texts tokens.now) }
+{
+    for token in tokens {
+        kept.push(Element::new(alloc, token)?)?;
+    }
+    Ok(())
+}
+
+/// Adds copies of the tokens at the end.
+fn push_copies(
+    kept: &mut SmallVec<Element, INLINE_TOKENS>,
+    elements: &[Element],
+) -> Result<(), AllocError>
+    ensures { OnOk result (kept.new.items ≡ kept.old.items ++ elements.now) }
+{
+    for element in elements {
+        kept.push(element.copy()?)?;
+    }
+    Ok(())
+}
+
+/// Whether one of the two lists of tokens begins with the other.
+fn intersects_at(elements: &[Element], tokens: &[&str]) -> bool
+    ensures { result ≡ intersects elements.now (texts tokens.now) }
+{
+    let Some((element, elements)) = elements.split_first() else {
+        return true;
+    };
+    let Some((token, tokens)) = tokens.split_first() else {
+        return true;
+    };
+    element.text() == *token && intersects_at(elements, tokens)
 }

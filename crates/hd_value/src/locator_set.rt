@@ -1,8 +1,9 @@
 //! Sets of locators.
 
-ghost use Rattle.std.specs.Prelude.{◌≡◌, ◌≤◌, ◌↔◌, [], filter, not, vec_len, vec_capacity, IsTrue, IfOk, OnOk, OnErr};
-ghost use Rattle.hd_value.specs.Locators.{is_prefix};
-ghost use Rattle.hd_value.specs.LocatorSets.{inserted, touches, covers, IsApart};
+ghost use Rattle.std.specs.Prelude.{◌≡◌, ◌≤◌, ◌↔◌, ◌++◌, [], filter, not, vec_len, vec_capacity, IsTrue, IfOk, OnOk, OnErr};
+ghost use Rattle.hd_path.specs.Paths.{is_prefix};
+ghost use Rattle.hd_tokens.specs.Tables.{texts};
+ghost use Rattle.hd_value.specs.LocatorSets.{with_locator, touches, covers, IsApart};
 
 use crate::locator::Locator;
 use std::alloc::{AllocError, Global};
@@ -15,10 +16,10 @@ pub struct LocatorSet {
 }
 
 impl Model for LocatorSet {
-    ghost use Rattle.std.specs.Prelude.{List, ℕ};
+    ghost use Rattle.hd_value.specs.LocatorSets;
     ghost use Rattle.hd_value.specs.LocatorSets.{IsApart};
 
-    ghost Value = { List (List (List ℕ)) };
+    ghost Value = { LocatorSets.LocatorSet };
 
     ghost view = { λ set. set.members.items };
 
@@ -46,7 +47,7 @@ impl LocatorSet {
     /// Adds a locator, in place of the members that begin with it. Where it begins with a member, the set stays as it is.
     #[tactic(auto, using(crate::proofs::Inserting::insertions))]
     pub fn insert(&mut self, at: &Locator) -> Result<(), AllocError>
-        ensures ok { OnOk result (self.new ≡ inserted self.old at.now) }
+        ensures ok { OnOk result (self.new ≡ with_locator self.old at.now) }
         ensures err { OnErr result (self.new ≡ self.old) }
     {
         if covers(&self.members, at) {
@@ -66,6 +67,15 @@ impl LocatorSet {
         self.members.iter().any(|member| member.intersects(at))
     }
 
+    /// Whether a member begins with these tokens, or they with a member.
+    pub fn intersects_at(&self, tokens: &[&str]) -> bool
+        ensures { result ≡ touches self.now (texts tokens.now) }
+    {
+        self.members
+            .iter()
+            .any(|member| member.intersects_at(tokens))
+    }
+
     /// Whether the set has no members.
     pub fn is_empty(&self) -> bool
         ensures { IsTrue result ↔ (self.now ≡ []) }
@@ -77,9 +87,9 @@ impl LocatorSet {
     pub fn copy(&self, alloc: Global) -> Result<LocatorSet, AllocError>
         ensures { IfOk result (λ copied. copied ≡ self.now) }
     {
-        Ok(LocatorSet {
-            members: copies(alloc, self.members())?,
-        })
+        let mut members = Vec::with_capacity(alloc, self.members.len())?;
+        push_copies(&mut members, alloc, &self.members)?;
+        Ok(LocatorSet { members })
     }
 }
 
@@ -99,12 +109,16 @@ fn drop_below(members: &mut Vec<Locator>, at: &Locator)
     members.retain(|member| !at.is_prefix_of(member));
 }
 
-fn copies(alloc: Global, locators: &[Locator]) -> Result<Vec<Locator>, AllocError>
-    ensures { IfOk result (λ copied. copied.items ≡ locators.now) }
+/// Adds copies of the locators at the end.
+fn push_copies(
+    copied: &mut Vec<Locator>,
+    alloc: Global,
+    locators: &[Locator],
+) -> Result<(), AllocError>
+    ensures { OnOk result (copied.new.items ≡ copied.old.items ++ locators.now) }
 {
-    let mut copied = Vec::with_capacity(alloc, locators.len())?;
     for locator in locators {
         copied.push(locator.copy(alloc)?)?;
     }
-    Ok(copied)
+    Ok(())
 }

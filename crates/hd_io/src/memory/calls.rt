@@ -1,7 +1,7 @@
 //! Which calls of an object in memory fail, and how much one call moves.
 
 ghost use Rattle.std.specs.Prelude.{◌≡◌, ◌≤◌, ◌↔◌, IsTrue};
-ghost use Rattle.hd_io.specs.Memory.{first_call, counted, IsDue};
+ghost use Rattle.hd_io.specs.Memory.{first_call, count_call, IsDue};
 
 use std::marker::Model;
 
@@ -39,7 +39,7 @@ impl Calls {
     /// Counts a call, and says whether it is one of those that fail.
     pub(crate) fn fails(&mut self) -> bool
         ensures answer { IsTrue result ↔ IsDue self.old }
-        ensures counted { self.new ≡ counted self.old }
+        ensures counted { self.new ≡ count_call self.old }
     {
         let number = self.next;
         self.next = number.saturating_add(1);

@@ -1,11 +1,15 @@
 //! A rack in memory.
 
-ghost use Rattle.std.specs.Prelude.{◌≡◌, ◌<◌, ◌≤◌, true, false, Some, [], IsTrue, length, min, take, OnOk, OnErr, IfOk, IsErr, IsErrOf, slice_get};
-ghost use Rattle.hd_io.specs.Causes.{HasCause};
+ghost use Rattle.std.specs.Prelude.{◌≡◌, ◌<◌, ◌≤◌, false, Some, [], IsTrue, length, min, take, OnOk, OnErr, IfOk, IsErr, IsErrOf, slice_get};
+ghost use Rattle.hd_io.specs.declared.fault.OutsideFault.TheVariants.{Failed, NoMemory};
 ghost use Rattle.hd_io.specs.Files.{file_list, with_bytes, with_file};
 ghost use Rattle.hd_io.specs.Memory.{first_call, IsDue, KeepsToPlan};
+ghost use Rattle.hd_io.specs.MemoryRack.{rack_state};
+ghost use Rattle.hd_io.specs.Offers.{with_offer};
+ghost use Rattle.hd_io.specs.Rack.{with_created, with_written, with_closed, HasFailed};
 
 use super::calls::Calls;
+use super::file::MemoryFile;
 use crate::{OutsideFault, Rack};
 use std::alloc::{AllocError, Global};
 use std::marker::Model;
@@ -14,8 +18,10 @@ use std::marker::Model;
 #[derive(Drop)]
 pub struct MemoryRack {
     alloc: Global,
-    files: Vec<(String, Vec<u8>)>,
+    files: Vec<MemoryFile>,
     is_open: bool,
+    /// The lengths of the pieces that writes were offered, and how many bytes each took.
+    offers: Vec<(usize, usize)>,
     faults: u64,
     calls: Calls,
 }
@@ -29,6 +35,7 @@ impl Model for MemoryRack {
     ghost view = { λ r. record {
       files = file_list r.files.items;
       is_open = r.is_open;
+      offers = r.offers.items;
       faults = r.faults;
       calls = r.calls;
     } };
@@ -44,6 +51,7 @@ impl MemoryRack {
 
         ensures files { result.files ≡ [] }
         ensures closed { result.is_open ≡ false }
+        ensures offers { result.offers ≡ [] }
         ensures faults { result.faults ≡ 0 }
         ensures calls { result.calls ≡ first_call failing.items piece }
     {
@@ -51,6 +59,7 @@ impl MemoryRack {
             alloc,
             files: Vec::new(alloc),
             is_open: false,
+            offers: Vec::new(alloc),
             faults: 0,
             calls: Calls::new(failing, piece),
         }
@@ -68,36 +77,36 @@ impl MemoryRack {
         requires { i < length self.now.files }
         ensures { slice_get self.now.files i ≡ Some (result.0.now, result.1.now) }
     {
-        let (name, bytes) = &self.files[i];
-        (name.as_str(), bytes.as_slice())
+        let file = &self.files[i];
+        (file.name.as_str(), file.bytes.as_slice())
+    }
+
+    /// The lengths of the pieces that writes were offered, each with how many of its bytes were taken.
+    pub fn offers(&self) -> &[(usize, usize)]
+        ensures { result.now ≡ self.now.offers }
+    {
+        &self.offers
     }
 }
 
 impl Rack for MemoryRack {
-    ghost held = { λ r. Some r.files };
-
-    ghost is_open = { λ r. r.is_open };
-
-    ghost faults = { λ r. r.faults };
+    ghost state = { λ r. rack_state r };
 
     fn create(&mut self, name: &str) -> Result<(), OutsideFault>
-        ensures created { OnOk result (self.new.files ≡ with_file name.now self.old.files) }
-        ensures opened { OnOk result (self.new.is_open ≡ true) }
-        ensures held { OnErr result (self.new.files ≡ self.old.files) }
-        ensures open { OnErr result (self.new.is_open ≡ self.old.is_open) }
-        ensures cause { HasCause self.old.faults self.new.faults result }
+        ensures created { OnOk result (rack_state self.new ≡ with_created name.now (rack_state self.old)) }
+        ensures failed { IsErrOf result Failed → HasFailed (rack_state self.old) (rack_state self.new) }
+        ensures no_memory { IsErrOf result NoMemory → rack_state self.new ≡ rack_state self.old }
 
         // Only the plan makes it fail.
         ensures plan { KeepsToPlan self.old.calls self.new.calls result }
-        ensures failed_only { IsErrOf result OutsideFault.Failed → IsDue self.old.calls }
-        ensures due { IsDue self.old.calls → IsErrOf result OutsideFault.Failed }
+        ensures failed_only { IsErrOf result Failed → IsDue self.old.calls }
+        ensures due { IsDue self.old.calls → IsErrOf result Failed }
     {
         if self.calls.fails() {
             self.faults = self.faults.saturating_add(1);
             return Err(OutsideFault::Failed);
         }
-        let name = String::from_str(self.alloc, name)?;
-        self.files.push((name, Vec::new(self.alloc)))?;
+        add_file(self.alloc, &mut self.files, name)?;
         self.is_open = true;
         Ok(())
     }
@@ -109,37 +118,35 @@ impl Rack for MemoryRack {
         // As many bytes as the plan lets one call move, or all of the piece.
         ensures count { IfOk result (λ n. n ≡ min (length piece.now) self.old.calls.piece) }
         ensures some { IfOk result (λ n. 1 ≤ n) }
-        ensures written { IfOk result (λ n. self.new.files ≡ with_bytes (take n piece.now) self.old.files) }
-        ensures held { OnErr result (self.new.files ≡ self.old.files) }
-        ensures open { self.new.is_open ≡ self.old.is_open }
-        ensures cause { HasCause self.old.faults self.new.faults result }
+        ensures written { IfOk result (λ n. rack_state self.new ≡ with_written piece.now n (rack_state self.old)) }
+        ensures failed { IsErrOf result Failed → HasFailed (rack_state self.old) (rack_state self.new) }
+        ensures no_memory { IsErrOf result NoMemory → rack_state self.new ≡ rack_state self.old }
 
         // Only the plan makes it fail.
         ensures plan { KeepsToPlan self.old.calls self.new.calls result }
-        ensures failed_only { IsErrOf result OutsideFault.Failed → IsDue self.old.calls }
-        ensures due { IsDue self.old.calls → IsErrOf result OutsideFault.Failed }
+        ensures failed_only { IsErrOf result Failed → IsDue self.old.calls }
+        ensures due { IsDue self.old.calls → IsErrOf result Failed }
     {
         if self.calls.fails() {
             self.faults = self.faults.saturating_add(1);
             return Err(OutsideFault::Failed);
         }
         let count = piece.len().min(self.calls.piece());
-        append(&mut self.files, &piece[..count])?;
+        append(&mut self.files, &mut self.offers, piece, count)?;
         Ok(count)
     }
 
     fn finish(&mut self) -> Result<(), OutsideFault>
         requires { IsTrue self.old.is_open }
 
-        ensures closed { OnOk result (self.new.is_open ≡ false) }
-        ensures held { self.new.files ≡ self.old.files }
-        ensures open { OnErr result (self.new.is_open ≡ self.old.is_open) }
-        ensures cause { HasCause self.old.faults self.new.faults result }
+        ensures closed { OnOk result (rack_state self.new ≡ with_closed (rack_state self.old)) }
+        ensures failed { IsErrOf result Failed → HasFailed (rack_state self.old) (rack_state self.new) }
+        ensures no_memory { IsErrOf result NoMemory → rack_state self.new ≡ rack_state self.old }
 
         // Only the plan makes it fail.
         ensures plan { KeepsToPlan self.old.calls self.new.calls result }
         ensures failed_only { IsErr result → IsDue self.old.calls }
-        ensures due { IsDue self.old.calls → IsErrOf result OutsideFault.Failed }
+        ensures due { IsDue self.old.calls → IsErrOf result Failed }
     {
         if self.calls.fails() {
             self.faults = self.faults.saturating_add(1);
@@ -150,13 +157,47 @@ impl Rack for MemoryRack {
     }
 }
 
+/// Adds an empty file of this name.
+fn add_file(alloc: Global, files: &mut Vec<MemoryFile>, name: &str) -> Result<(), AllocError>
+    ensures added { OnOk result (file_list files.new.items ≡ with_file name.now (file_list files.old.items)) }
+    ensures unchanged { OnErr result (file_list files.new.items ≡ file_list files.old.items) }
+{
+    let name = String::from_str(alloc, name)?;
+    let bytes = Vec::new(alloc);
+    files.push(MemoryFile { name, bytes })?;
+    Ok(())
+}
+
+/// Writes so many of the first bytes of a piece to the end of the last file, and notes the offer.
+fn append(
+    files: &mut Vec<MemoryFile>,
+    offers: &mut Vec<(usize, usize)>,
+    piece: &[u8],
+    count: usize,
+) -> Result<(), AllocError>
+    requires some { 0 < length files.old.items }
+    requires within { count ≤ length piece.now }
+    ensures written { OnOk result (file_list files.new.items ≡ with_bytes (take count piece.now) (file_list files.old.items)) }
+    ensures offered { OnOk result (offers.new.items ≡ with_offer (length piece.now) count offers.old.items) }
+    ensures unchanged { OnErr result (file_list files.new.items ≡ file_list files.old.items) }
+    ensures unoffered { OnErr result (offers.new.items ≡ offers.old.items) }
+    ensures count { length files.new.items ≡ length files.old.items }
+{
+    offers.push((piece.len(), count))?;
+    let added = append_bytes(files, &piece[..count]);
+    if added.is_err() {
+        offers.pop();
+    }
+    added
+}
+
 /// Writes bytes to the end of the last file.
-fn append(files: &mut Vec<(String, Vec<u8>)>, bytes: &[u8]) -> Result<(), AllocError>
+fn append_bytes(files: &mut Vec<MemoryFile>, bytes: &[u8]) -> Result<(), AllocError>
     requires { 0 < length files.old.items }
     ensures written { OnOk result (file_list files.new.items ≡ with_bytes bytes.now (file_list files.old.items)) }
     ensures unchanged { OnErr result (file_list files.new.items ≡ file_list files.old.items) }
     ensures count { length files.new.items ≡ length files.old.items }
 {
     let last = files.len() - 1;
-    files[last].1.extend_from_slice(bytes)
+    files[last].bytes.extend_from_slice(bytes)
 }

@@ -1,14 +1,14 @@
 //! A shelf in memory.
 
-ghost use Rattle.std.specs.Prelude.{◌≡◌, ◌⊎◌, ◌+◌, ◌-◌, ◌<◌, ◌≤◌, ◌≢◌, length, min, drop, AllPairs, Option, IsSome, IsSomeAnd, MatchOption, Some, None, OnOk, OnErr, IfOk, IsErr, slice_get, string_bytes};
-ghost use Rattle.hd_io.specs.Causes.{HasCause};
-ghost use Rattle.hd_io.specs.Failures.{failed_name};
-ghost use Rattle.hd_io.specs.MemoryShelf.{name_at, IsPlaced};
+ghost use Rattle.std.specs.Prelude.{◌≡◌, ◌⊎◌, ◌-◌, ◌<◌, ◌≤◌, ◌≢◌, length, min, drop, AllPairs, Option, IsSome, IsSomeAnd, MatchOption, Some, None, OnOk, OnErr, IfOk, IsErr, IsErrOf, slice_get, string_bytes};
+ghost use Rattle.hd_io.specs.declared.fault.OutsideFault.TheVariants.{Failed, NoMemory};
+ghost use Rattle.hd_io.specs.MemoryShelf.{shelf_state, name_at, IsPlaced};
 ghost use Rattle.hd_io.specs.Memory.{first_call, IsDue, KeepsToPlan};
 ghost use Rattle.hd_io.specs.Files.{file_list, file_map, bytes_of, open_bytes};
-ghost use Rattle.hd_io.specs.Shelf.{ReadsNext, NamesFailure};
+ghost use Rattle.hd_io.specs.Shelf.{with_open, with_taken, HasFailed, ReadsNext};
 
 use super::calls::Calls;
+use super::file::MemoryFile;
 use crate::failures::Failures;
 use crate::{OutsideFault, Shelf};
 use std::alloc::Global;
@@ -17,7 +17,7 @@ use std::marker::Model;
 /// A shelf that holds its files in memory and tells them.
 #[derive(Drop)]
 pub struct MemoryShelf {
-    files: Vec<(String, Vec<u8>)>,
+    files: Vec<MemoryFile>,
     /// The index of the open file.
     reading: Option<usize>,
     taken: usize,
@@ -49,11 +49,11 @@ impl MemoryShelf {
     /// `failing` fail, counted from 0 over both kinds of call, and one call moves at most `piece` bytes.
     pub fn new(
         alloc: Global,
-        files: Vec<(String, Vec<u8>)>,
+        files: Vec<MemoryFile>,
         failing: Vec<u64>,
         piece: usize,
     ) -> MemoryShelf
-        requires differ { AllPairs (λ one other. string_bytes one.0 ≢ string_bytes other.0) files.items }
+        requires differ { AllPairs (λ one other. string_bytes one.name ≢ string_bytes other.name) files.items }
         requires moves { 1 ≤ piece }
 
         ensures files { result.files ≡ file_list files.items }
@@ -74,27 +74,14 @@ impl MemoryShelf {
 }
 
 impl Shelf for MemoryShelf {
-    ghost files = { λ s. Some (file_map s.files) };
-
-    ghost opened = { λ s. s.opened };
-
-    ghost taken = { λ s. s.taken };
-
-    ghost faults = { λ s. s.faults };
-
-    ghost failed = { λ s. s.failed };
+    ghost state = { λ s. shelf_state s };
 
     fn open(&mut self, name: &str) -> Result<(), OutsideFault>
         ensures files { self.new.files ≡ self.old.files }
-        ensures opened { OnOk result (self.new.opened ≡ Some name.now) }
-        ensures begun { OnOk result (self.new.taken ≡ 0) }
+        ensures opened { OnOk result (shelf_state self.new ≡ with_open name.now (shelf_state self.old)) }
         ensures there { OnOk result (IsSome (bytes_of (file_map self.old.files) name.now)) }
-
-        ensures unopened { OnErr result (self.new.opened ≡ self.old.opened) }
-        ensures untaken { OnErr result (self.new.taken ≡ self.old.taken) }
-
-        ensures failed { NamesFailure (Some name.now) self.old.failed self.new.failed result }
-        ensures cause { HasCause self.old.faults self.new.faults result }
+        ensures failed { IsErrOf result Failed → HasFailed (Some name.now) (shelf_state self.old) (shelf_state self.new) }
+        ensures no_memory { IsErrOf result NoMemory → shelf_state self.new ≡ shelf_state self.old }
 
         // Only the plan and a missing name make it fail.
         ensures plan { KeepsToPlan self.old.calls self.new.calls result }
@@ -117,20 +104,18 @@ impl Shelf for MemoryShelf {
         requires room { 0 < length buffer.old }
 
         ensures files { self.new.files ≡ self.old.files }
-        ensures opened { self.new.opened ≡ self.old.opened }
-        ensures taken { IfOk result (λ n. self.new.taken ≡ self.old.taken + n) }
-        ensures untaken { OnErr result (self.new.taken ≡ self.old.taken) }
+        ensures taken { IfOk result (λ n. shelf_state self.new ≡ with_taken n (shelf_state self.old)) }
 
         // As many bytes as fit the buffer and the plan, or all that are left.
         ensures count { IfOk result (λ n. IsSomeAnd (open_bytes (file_map self.old.files) self.old.opened) (λ file.
             n ≡ min self.old.calls.piece (min (length buffer.new) (length file - self.old.taken)))) }
         ensures bytes { IfOk result (λ n. IsSomeAnd (open_bytes (file_map self.old.files) self.old.opened) (λ file.
             ReadsNext file self.old.taken n buffer.new)) }
-        ensures behind { IfOk result (λ n. drop n buffer.new ≡ drop n buffer.old) }
+        ensures after { IfOk result (λ n. drop n buffer.new ≡ drop n buffer.old) }
         ensures untouched { OnErr result (buffer.new ≡ buffer.old) }
 
-        ensures failed { NamesFailure self.old.opened self.old.failed self.new.failed result }
-        ensures cause { HasCause self.old.faults self.new.faults result }
+        ensures failed { IsErrOf result Failed → HasFailed self.old.opened (shelf_state self.old) (shelf_state self.new) }
+        ensures no_memory { IsErrOf result NoMemory → shelf_state self.new ≡ shelf_state self.old }
 
         // Only the plan makes it fail.
         ensures plan { KeepsToPlan self.old.calls self.new.calls result }
@@ -147,13 +132,13 @@ impl Shelf for MemoryShelf {
 }
 
 /// The index of the first file of this name.
-fn place_of(files: &[(String, Vec<u8>)], name: &str) -> Option<usize>
+fn place_of(files: &[MemoryFile], name: &str) -> Option<usize>
     ensures { MatchOption result (bytes_of (file_map (file_list files.now)) name.now ≡ None) (λ index.
         IsSomeAnd (slice_get (file_list files.now) index) (λ file.
         (file.0 ≡ name.now) × (bytes_of (file_map (file_list files.now)) name.now ≡ Some file.1))) }
 {
     for (index, file) in files.iter().enumerate() {
-        if name == file.0.as_str() {
+        if name == file.name.as_str() {
             return Some(index);
         }
     }
@@ -161,7 +146,7 @@ fn place_of(files: &[(String, Vec<u8>)], name: &str) -> Option<usize>
 }
 
 /// The name and the bytes of the open file.
-fn file_at(files: &[(String, Vec<u8>)], index: Option<usize>, taken: usize) -> (&str, &[u8])
+fn file_at(files: &[MemoryFile], index: Option<usize>, taken: usize) -> (&str, &[u8])
     requires open { IsSome (name_at (file_list files.now) index) }
     requires placed { IsPlaced (file_list files.now) index taken }
 
@@ -170,11 +155,11 @@ fn file_at(files: &[(String, Vec<u8>)], index: Option<usize>, taken: usize) -> (
     ensures within { taken ≤ length result.1.now }
 {
     let Some(index) = index else { unreachable!() };
-    let (name, bytes) = &files[index];
-    (name.as_str(), bytes.as_slice())
+    let file = &files[index];
+    (file.name.as_str(), file.bytes.as_slice())
 }
 
-/// Copies the bytes of a file that stand at a place into the front of a buffer, at most `piece`, and returns how many.
+/// Copies the bytes of a file that are at a place into the front of a buffer, at most `piece`, and returns how many.
 fn copy_next(file: &[u8], place: usize, piece: usize, buffer: &mut [u8]) -> usize
     requires within { place ≤ length file.now }
     requires moves { 1 ≤ piece }
@@ -182,7 +167,7 @@ fn copy_next(file: &[u8], place: usize, piece: usize, buffer: &mut [u8]) -> usiz
 
     ensures count { result ≡ min piece (min (length buffer.new) (length file.now - place)) }
     ensures next { ReadsNext file.now place result buffer.new }
-    ensures behind { drop result buffer.new ≡ drop result buffer.old }
+    ensures after { drop result buffer.new ≡ drop result buffer.old }
 {
     let rest = &file[place..];
     let count = piece.min(buffer.len()).min(rest.len());

@@ -1,18 +1,23 @@
 //! A sink in memory.
 
-ghost use Rattle.std.specs.Prelude.{◌≡◌, ◌++◌, ◌<◌, ◌≤◌, Some, [], length, min, take, OnErr, IfOk, IsErrOf};
-ghost use Rattle.hd_io.specs.Causes.{HasCause};
+ghost use Rattle.std.specs.Prelude.{◌≡◌, ◌++◌, ◌<◌, ◌≤◌, [], length, min, take, OnOk, OnErr, IfOk, IsErrOf};
+ghost use Rattle.hd_io.specs.declared.fault.OutsideFault.TheVariants.{Failed, NoMemory};
 ghost use Rattle.hd_io.specs.Memory.{first_call, IsDue, KeepsToPlan};
+ghost use Rattle.hd_io.specs.MemorySink.{sink_state};
+ghost use Rattle.hd_io.specs.Offers.{with_offer};
+ghost use Rattle.hd_io.specs.Sink.{with_written, HasFailed};
 
 use super::calls::Calls;
 use crate::{OutsideFault, Sink};
-use std::alloc::Global;
+use std::alloc::{AllocError, Global};
 use std::marker::Model;
 
 /// A sink that holds its bytes in memory and tells them.
 #[derive(Drop)]
 pub struct MemorySink {
     bytes: Vec<u8>,
+    /// The lengths of the pieces that writes were offered, and how many bytes each took.
+    offers: Vec<(usize, usize)>,
     faults: u64,
     calls: Calls,
 }
@@ -22,7 +27,7 @@ impl Model for MemorySink {
 
     ghost Value = { MemorySinkState };
 
-    ghost view = { λ s. record { bytes = s.bytes.items; faults = s.faults; calls = s.calls } };
+    ghost view = { λ s. record { bytes = s.bytes.items; offers = s.offers.items; faults = s.faults; calls = s.calls } };
 }
 
 impl MemorySink {
@@ -32,11 +37,13 @@ impl MemorySink {
         requires { 1 ≤ piece }
 
         ensures bytes { result.bytes ≡ [] }
+        ensures offers { result.offers ≡ [] }
         ensures faults { result.faults ≡ 0 }
         ensures calls { result.calls ≡ first_call failing.items piece }
     {
         MemorySink {
             bytes: Vec::new(alloc),
+            offers: Vec::new(alloc),
             faults: 0,
             calls: Calls::new(failing, piece),
         }
@@ -48,12 +55,17 @@ impl MemorySink {
     {
         &self.bytes
     }
+
+    /// The lengths of the pieces that writes were offered, each with how many of its bytes were taken.
+    pub fn offers(&self) -> &[(usize, usize)]
+        ensures { result.now ≡ self.now.offers }
+    {
+        &self.offers
+    }
 }
 
 impl Sink for MemorySink {
-    ghost held = { λ s. Some s.bytes };
-
-    ghost faults = { λ s. s.faults };
+    ghost state = { λ s. sink_state s };
 
     fn write(&mut self, piece: &[u8]) -> Result<usize, OutsideFault>
         requires { 0 < length piece.now }
@@ -61,21 +73,42 @@ impl Sink for MemorySink {
         // As many bytes as the plan lets one call move, or all of the piece.
         ensures count { IfOk result (λ n. n ≡ min (length piece.now) self.old.calls.piece) }
         ensures some { IfOk result (λ n. 1 ≤ n) }
-        ensures written { IfOk result (λ n. self.new.bytes ≡ self.old.bytes ++ take n piece.now) }
-        ensures held { OnErr result (self.new.bytes ≡ self.old.bytes) }
-        ensures cause { HasCause self.old.faults self.new.faults result }
+        ensures written { IfOk result (λ n. sink_state self.new ≡ with_written piece.now n (sink_state self.old)) }
+        ensures failed { IsErrOf result Failed → HasFailed (sink_state self.old) (sink_state self.new) }
+        ensures no_memory { IsErrOf result NoMemory → sink_state self.new ≡ sink_state self.old }
 
         // Only the plan makes it fail.
         ensures plan { KeepsToPlan self.old.calls self.new.calls result }
-        ensures failed_only { IsErrOf result OutsideFault.Failed → IsDue self.old.calls }
-        ensures due { IsDue self.old.calls → IsErrOf result OutsideFault.Failed }
+        ensures failed_only { IsErrOf result Failed → IsDue self.old.calls }
+        ensures due { IsDue self.old.calls → IsErrOf result Failed }
     {
         if self.calls.fails() {
             self.faults = self.faults.saturating_add(1);
             return Err(OutsideFault::Failed);
         }
         let count = piece.len().min(self.calls.piece());
-        self.bytes.extend_from_slice(&piece[..count])?;
+        append(&mut self.bytes, &mut self.offers, piece, count)?;
         Ok(count)
     }
+}
+
+/// Writes so many of the first bytes of a piece, and notes the offer.
+fn append(
+    bytes: &mut Vec<u8>,
+    offers: &mut Vec<(usize, usize)>,
+    piece: &[u8],
+    count: usize,
+) -> Result<(), AllocError>
+    requires { count ≤ length piece.now }
+    ensures written { OnOk result (bytes.new.items ≡ bytes.old.items ++ take count piece.now) }
+    ensures offered { OnOk result (offers.new.items ≡ with_offer (length piece.now) count offers.old.items) }
+    ensures unchanged { OnErr result (bytes.new.items ≡ bytes.old.items) }
+    ensures unoffered { OnErr result (offers.new.items ≡ offers.old.items) }
+{
+    offers.push((piece.len(), count))?;
+    let added = bytes.extend_from_slice(&piece[..count]);
+    if added.is_err() {
+        offers.pop();
+    }
+    added
 }

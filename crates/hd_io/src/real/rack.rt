@@ -1,8 +1,10 @@
 //! A rack over the files of the system.
 
-ghost use Rattle.std.specs.Prelude.{◌≡◌, ◌<◌, ◌≤◌, IsTrue, true, false, None, length, OnOk, OnErr, IfOk};
+ghost use Rattle.std.specs.Prelude.{◌≡◌, ◌<◌, ◌≤◌, IsTrue, false, length, OnOk, OnErr, IfOk, IsErrOf};
 ghost use Rattle.std.specs.Io.KnownBytes.{Keeps, WriteAppends};
-ghost use Rattle.hd_io.specs.Causes.{HasCause};
+ghost use Rattle.hd_io.specs.declared.fault.OutsideFault.TheVariants.{Failed, NoMemory};
+ghost use Rattle.hd_io.specs.Rack.{with_created, with_written, with_closed, HasFailed};
+ghost use Rattle.hd_io.specs.Real.{rack_state};
 
 use super::offer;
 use crate::{OutsideFault, Rack};
@@ -50,17 +52,13 @@ impl<R: Files> FileRack<R> {
 }
 
 impl<R: Files> Rack for FileRack<R> {
-    ghost held = { λ _. None };
-
-    ghost is_open = { λ r. r.is_open };
-
-    ghost faults = { λ r. r.faults };
+    ghost state = { λ r. rack_state r };
 
     fn create(&mut self, name: &str) -> Result<(), OutsideFault>
-        ensures opened { OnOk result (self.new.is_open ≡ true) }
+        ensures created { OnOk result (rack_state self.new ≡ with_created name.now (rack_state self.old)) }
         ensures bytes { OnErr result (self.new.bytes ≡ self.old.bytes) }
-        ensures open { OnErr result (self.new.is_open ≡ self.old.is_open) }
-        ensures cause { HasCause self.old.faults self.new.faults result }
+        ensures failed { IsErrOf result Failed → HasFailed (rack_state self.old) (rack_state self.new) }
+        ensures no_memory { IsErrOf result NoMemory → rack_state self.new ≡ rack_state self.old }
     {
         let Ok(file) = fs::create(&self.rt, name) else {
             self.faults = self.faults.saturating_add(1);
@@ -75,9 +73,10 @@ impl<R: Files> Rack for FileRack<R> {
         requires some { 0 < length piece.now }
 
         ensures count { IfOk result (λ n. (1 ≤ n) × (n ≤ length piece.now)) }
+        ensures written { IfOk result (λ n. rack_state self.new ≡ with_written piece.now n (rack_state self.old)) }
         ensures bytes { WriteAppends self.old.bytes self.new.bytes result piece.now }
-        ensures open { self.new.is_open ≡ self.old.is_open }
-        ensures cause { HasCause self.old.faults self.new.faults result }
+        ensures failed { IsErrOf result Failed → HasFailed (rack_state self.old) (rack_state self.new) }
+        ensures no_memory { IsErrOf result NoMemory → rack_state self.new ≡ rack_state self.old }
     {
         let Some(file) = &mut self.file else {
             unreachable!()
@@ -88,10 +87,10 @@ impl<R: Files> Rack for FileRack<R> {
     fn finish(&mut self) -> Result<(), OutsideFault>
         requires { IsTrue self.old.is_open }
 
-        ensures closed { OnOk result (self.new.is_open ≡ false) }
+        ensures closed { OnOk result (rack_state self.new ≡ with_closed (rack_state self.old)) }
         ensures bytes { OnErr result (Keeps self.old.bytes self.new.bytes) }
-        ensures open { OnErr result (self.new.is_open ≡ self.old.is_open) }
-        ensures cause { HasCause self.old.faults self.new.faults result }
+        ensures failed { IsErrOf result Failed → HasFailed (rack_state self.old) (rack_state self.new) }
+        ensures no_memory { IsErrOf result NoMemory → rack_state self.new ≡ rack_state self.old }
     {
         let Some(file) = &mut self.file else {
             unreachable!()

@@ -1,10 +1,11 @@
 //! A shelf over the files of the system.
 
-ghost use Rattle.std.specs.Prelude.{◌≡◌, ◌+◌, ◌^◌, ◌<◌, ◌≤◌, length, Option, None, Some, IsSome, IsErr, OnOk, OnErr, IfOk, string_bytes};
+ghost use Rattle.std.specs.Prelude.{◌≡◌, ◌+◌, ◌^◌, ◌<◌, ◌≤◌, length, None, Some, IsSome, IsErr, IsErrOf, OnOk, OnErr, IfOk, string_bytes};
 ghost use Rattle.std.specs.Io.KnownBytes.{ReadConsumes};
-ghost use Rattle.hd_io.specs.Causes.{HasCause};
-ghost use Rattle.hd_io.specs.Failures.{failed_name};
-ghost use Rattle.hd_io.specs.Shelf.{NamesFailure};
+ghost use Rattle.hd_io.specs.declared.fault.OutsideFault.TheVariants.{Failed, NoMemory};
+ghost use Rattle.hd_io.specs.Failures.{Notes, NotesNothing};
+ghost use Rattle.hd_io.specs.Real.{shelf_state};
+ghost use Rattle.hd_io.specs.Shelf.{with_open, with_taken, HasFailed};
 
 use super::read_some;
 use crate::failures::Failures;
@@ -32,8 +33,9 @@ impl<F: Read> Reading<F> {
         ensures untaken { OnErr result (self.new.taken ≡ self.old.taken) }
         ensures full { 2 ^ 64 ≤ self.old.taken + length buffer.old → IsErr result }
         ensures bytes { ReadConsumes (F.remaining self.old.file) (F.remaining self.new.file) result buffer.new }
-        ensures failed { NamesFailure (Some (string_bytes self.old.name)) (failed_name failures.old) (failed_name failures.new) result }
-        ensures cause { HasCause failures.old.count failures.new.count result }
+        ensures kept { OnOk result (failures.new ≡ failures.old) }
+        ensures noted { IsErrOf result Failed → Notes (string_bytes self.old.name) failures.old failures.new }
+        ensures no_memory { IsErrOf result NoMemory → NotesNothing failures.old failures.new }
     {
         if u64::MAX - self.taken < buffer.len() as u64 {
             return failures.fail(self.name.as_str());
@@ -92,28 +94,15 @@ impl<R: Files> FileShelf<R> {
 }
 
 impl<R: Files> Shelf for FileShelf<R> {
-    ghost files = { λ _. None };
-
-    ghost opened = { λ s. s.opened };
-
-    ghost taken = { λ s. s.taken };
-
-    ghost faults = { λ s. s.faults };
-
-    ghost failed = { λ s. s.failed };
+    ghost state = { λ s. shelf_state s };
 
     fn open(&mut self, name: &str) -> Result<(), OutsideFault>
-        ensures opened { OnOk result (self.new.opened ≡ Some name.now) }
-        ensures begun { OnOk result (self.new.taken ≡ 0) }
-
-        ensures unopened { OnErr result (self.new.opened ≡ self.old.opened) }
-        ensures untaken { OnErr result (self.new.taken ≡ self.old.taken) }
+        ensures opened { OnOk result (shelf_state self.new ≡ with_open name.now (shelf_state self.old)) }
         ensures left { OnErr result (self.new.left ≡ self.old.left) }
-
-        ensures failed { NamesFailure (Some name.now) self.old.failed self.new.failed result }
-        ensures cause { HasCause self.old.faults self.new.faults result }
+        ensures failed { IsErrOf result Failed → HasFailed (Some name.now) (shelf_state self.old) (shelf_state self.new) }
+        ensures no_memory { IsErrOf result NoMemory → shelf_state self.new ≡ shelf_state self.old }
     {
-        // The name first, so that want of memory leaves all as it was.
+        // The name first, so that lack of memory leaves all as it was.
         let name = String::from_str(self.failures.alloc, name)?;
         match fs::open(&self.rt, name.as_str()) {
             Ok(file) => {
@@ -132,17 +121,15 @@ impl<R: Files> Shelf for FileShelf<R> {
         requires open { IsSome self.old.opened }
         requires room { 0 < length buffer.old }
 
-        ensures opened { self.new.opened ≡ self.old.opened }
         ensures count { IfOk result (λ n. n ≤ length buffer.new) }
-        ensures taken { IfOk result (λ n. self.new.taken ≡ self.old.taken + n) }
-        ensures untaken { OnErr result (self.new.taken ≡ self.old.taken) }
+        ensures taken { IfOk result (λ n. shelf_state self.new ≡ with_taken n (shelf_state self.old)) }
 
         // A read after which the count of taken bytes might not fit fails.
         ensures full { 2 ^ 64 ≤ self.old.taken + length buffer.old → IsErr result }
         ensures bytes { ReadConsumes self.old.left self.new.left result buffer.new }
 
-        ensures failed { NamesFailure self.old.opened self.old.failed self.new.failed result }
-        ensures cause { HasCause self.old.faults self.new.faults result }
+        ensures failed { IsErrOf result Failed → HasFailed self.old.opened (shelf_state self.old) (shelf_state self.new) }
+        ensures no_memory { IsErrOf result NoMemory → shelf_state self.new ≡ shelf_state self.old }
     {
         let Some(mut reading) = self.reading.take() else {
             unreachable!()

@@ -1,8 +1,10 @@
 //! A sink to a writer, such as the standard output.
 
-ghost use Rattle.std.specs.Prelude.{◌≡◌, ◌<◌, ◌≤◌, None, length, IfOk};
+ghost use Rattle.std.specs.Prelude.{◌≡◌, ◌<◌, ◌≤◌, length, IfOk, IsErrOf};
 ghost use Rattle.std.specs.Io.KnownBytes.{WriteAppends};
-ghost use Rattle.hd_io.specs.Causes.{HasCause};
+ghost use Rattle.hd_io.specs.declared.fault.OutsideFault.TheVariants.{Failed, NoMemory};
+ghost use Rattle.hd_io.specs.Real.{sink_state};
+ghost use Rattle.hd_io.specs.Sink.{with_written, HasFailed};
 
 use super::offer;
 use crate::{OutsideFault, Sink};
@@ -36,16 +38,16 @@ impl<W: Write> OutSink<W> {
 }
 
 impl<W: Write> Sink for OutSink<W> {
-    ghost held = { λ _. None };
-
-    ghost faults = { λ s. s.faults };
+    ghost state = { λ s. sink_state s };
 
     fn write(&mut self, piece: &[u8]) -> Result<usize, OutsideFault>
         requires { 0 < length piece.now }
 
         ensures count { IfOk result (λ n. (1 ≤ n) × (n ≤ length piece.now)) }
+        ensures written { IfOk result (λ n. sink_state self.new ≡ with_written piece.now n (sink_state self.old)) }
         ensures bytes { WriteAppends self.old.bytes self.new.bytes result piece.now }
-        ensures cause { HasCause self.old.faults self.new.faults result }
+        ensures failed { IsErrOf result Failed → HasFailed (sink_state self.old) (sink_state self.new) }
+        ensures no_memory { IsErrOf result NoMemory → sink_state self.new ≡ sink_state self.old }
     {
         offer(&mut self.writer, piece, &mut self.faults)
     }

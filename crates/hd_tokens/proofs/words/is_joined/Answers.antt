@@ -1,6 +1,6 @@
 use Rattle.std.proofs.Common.{◌≡◌, ◌∙◌, sym, ap, length, take, true, false, arith}
 use Rattle.hd_tokens.specs.Names.{is_plain_word, is_colon, is_joined}
-use Rattle.hd_tokens.proofs.Splitting.{behind_first, all_fails, all_ends, all_goes_on}
+use Rattle.hd_tokens.proofs.Splitting.{after_first, all_fails, all_ends, all_goes_on}
 use Rattle.hd_tokens.proofs.words.is_joined.Goals as goal
 
 pub returns-then-not-is_plain_word : goal.returns-then-not-is_plain_word
@@ -24,4 +24,4 @@ parts-preserved c =
     let rest = c.parts.rest.now in
     let size = ap length c.split_at.ensures.back in
     let test : is_plain_word (take n rest) ≡ true = ap is_plain_word (sym c.split_at.ensures.front) ∙ sym c.is_plain_word.ensures ∙ c.if-not-is_plain_word.false in
-    ap is_joined (behind_first n rest c.split_at.result.1.now c.split_at.ensures.back) ∙ sym (all_goes_on is_colon is_plain_word n rest c.part_len.ensures.count test (omega (arith, size, c.in-len1-up.len_at_least))) ∙ c.parts.invariant
+    ap is_joined (after_first n rest c.split_at.result.1.now c.split_at.ensures.back) ∙ sym (all_goes_on is_colon is_plain_word n rest c.part_len.ensures.count test (omega (arith, size, c.in-len1-up.len_at_least))) ∙ c.parts.invariant

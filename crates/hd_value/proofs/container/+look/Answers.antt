@@ -1,7 +1,7 @@
 use Rattle.std.proofs.Common.{◌≡◌, Option, Some, None, ◌∷◌, length, map, sym, ap, ◌∙◌, rules}
 use Rattle.std.proofs.lemmas.List.{length-map}
 use Rattle.std.specs.Option.{option_copied}
-use Rattle.hd_value.specs.Levels.{source_at}
+use Rattle.hd_value.specs.inner.Entries.{source_at}
 use Rattle.hd_value.proofs.Getting.{found_step, found_in, found_inside, found_further, no_items}
 use Rattle.hd_value.proofs.container.+look.Goals as goal
 

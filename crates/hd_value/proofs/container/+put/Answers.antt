@@ -1,9 +1,10 @@
-use Rattle.std.proofs.Common.{◌≡◌, ◌∷◌, ℕ, List, set, Some, sym, ap, subst, ◌∙◌, arith, rules}
+use Rattle.std.proofs.Common.{◌≡◌, [], ◌∷◌, ℕ, List, set, Some, OnOk, sym, ap, subst, ◌∙◌, arith, rules}
 use Rattle.std.specs.List.{insert}
 use Rattle.std.proofs.lemmas.Result.{on_ok_weaker, on_err_weaker}
 use Rattle.hd_value.specs.declared.container.Entry.{Entry}
 use Rattle.hd_value.specs.declared.container.Source.{Source}
-use Rattle.hd_value.specs.Levels.{level_map, source_at, source_with, IsPlace, IsGap, AreEntries, IsLevel}
+use Rattle.hd_value.specs.Levels.{level_map}
+use Rattle.hd_value.specs.inner.Entries.{source_at, source_with, entry_at, IsPlace, IsGap, AreEntries, IsLevel}
 use Rattle.hd_value.specs.Maps.{Map, set_at, IsFree}
 use Rattle.hd_value.proofs.Getting.{map_of}
 use Rattle.hd_value.proofs.Sorting.{at_place, set_place, insert_gap, none_in_gap}
@@ -76,15 +77,21 @@ put_in-returns-in-Ok-clause-ok t c =
     ∙ ap (λ w. set es i (record { token = w; source = after })) token
     ∙ set_place t after es i entry c.requires.entries place.in_range (place.has_token entry)) c.put_at.ensures.ok
 
-pub put_in-returns-in_ok-insert-in-Err-clause-ok : goal.put_in-returns-in_ok-insert-in-Err-clause-ok
-put_in-returns-in_ok-insert-in-Err-clause-ok t c =
+pub put_in-returns-in_ok-source_of-in-Err-clause-ok : goal.put_in-returns-in_ok-source_of-in-Err-clause-ok
+put_in-returns-in_ok-source_of-in-Err-clause-ok t c =
     let t = c.args.first.now in
     let es = c.args.entries.now.items in
     let i = c.in-Err.i in
     let gap : IsGap t es i =
     subst (λ (token : List ℕ). IsGap token es i) c.text.ensures (subst (λ (fs : List Entry). IsGap c.text.result.now fs i) c.deref.ensures.value c.in-Err.ensures.missing)
     in
-    c.in_ok-insert-in-Err.ensures.items
-    ∙ ap (λ w. insert es i (record { token = w; source = c.in_ok-source_of-in-Err.field-0 })) c.in_ok-copy-in-Err.ensures
-    ∙ ap (λ s. insert es i (record { token = t; source = s })) (c.in_ok-source_of-in-Err.ensures ∙ ap (λ o. source_with o c.args.rest.now c.args.value) (sym (none_in_gap t es i gap)))
-    ∙ insert_gap t (source_with (source_at t es) c.args.rest.now c.args.value) es i gap
+    on_ok_weaker c.insert_entry.result
+    (λ put.
+    put
+    ∙ ap (λ s. insert es i (entry_at t s)) (c.in_ok-source_of-in-Err.ensures ∙ ap (λ o. source_with o c.args.rest.now c.args.value) (sym (none_in_gap t es i gap)))
+    ∙ insert_gap t (source_with (source_at t es) c.args.rest.now c.args.value) es i gap) c.insert_entry.ensures.ok
+
+pub put-returns-in-None-clause-ok : goal.put-returns-in-None-clause-ok
+put-returns-in-None-clause-ok t c =
+    let is : c.args.container.now ≡ map_of [] = sym c.container.view_is ∙ ap level_map c.in-None.is in
+    subst (λ (m : Map). OnOk c.fill.result (c.fill.new.container ≡ set_at m (c.args.first.now ∷ c.args.rest.now) c.args.value)) (sym is) c.fill.ensures.ok

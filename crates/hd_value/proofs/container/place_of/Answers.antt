@@ -1,6 +1,6 @@
 use Rattle.std.proofs.Common.{◌≡◌, rules}
 use Rattle.std.proofs.lemmas.Fn.{always_returns_same}
-use Rattle.hd_value.specs.Locators.{byte_order}
+use Rattle.hd_path.specs.Names.{byte_order}
 use Rattle.hd_value.proofs.Sorting.{searched}
 use Rattle.hd_value.proofs.container.place_of.Goals as goal
 

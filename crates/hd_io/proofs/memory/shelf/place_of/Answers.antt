@@ -7,12 +7,12 @@ use Rattle.hd_io.proofs.memory.shelf.place_of.Goals as goal
 
 pub returns-then-eq : goal.returns-then-eq
 returns-then-eq c =
-    let same : bytes_eq c.args.name.now (string_bytes c.index-files-index.result.0) ≡ true = cc in
+    let same : bytes_eq c.args.name.now (string_bytes c.index-files-index.result.name) ≡ true = cc in
     found c.args.files.now c.loop-index.index c.index-files-index.result c.args.name.now (omega arith) c.index-files-index.is same c.loop-index.invariant
 
 pub loop-index-preserved : goal.loop-index-preserved
 loop-index-preserved c =
-    let other : bytes_eq c.args.name.now (string_bytes c.index-files-index.result.0) ≡ false = cc in
+    let other : bytes_eq c.args.name.now (string_bytes c.index-files-index.result.name) ≡ false = cc in
     passed c.args.files.now c.loop-index.index c.index-files-index.result c.args.name.now (omega arith) c.index-files-index.is other ∙ c.loop-index.invariant
 
 pub returns : goal.returns

@@ -1,5 +1,5 @@
 use Rattle.std.proofs.Common.{ap, ◌∙◌}
-use Rattle.hd_num.specs.Matrices.{bounded, product}
+use Rattle.hd_num.specs.Matrices.{if_in_range, product}
 use Rattle.hd_num.proofs.Shapes.{row_within_twice}
 use Rattle.hd_num.proofs.matrix.Matrix.compose.Goals as goal
 
@@ -18,4 +18,4 @@ image-requires-4-clause-row_in c = row_within_twice c.self.inside.rows 3 c.self.
 pub returns : goal.returns
 unfolding product
 returns c =
-    c.of_rows.ensures ∙ rw (c.image.ensures, c.image-2.ensures, c.image-3.ensures, c.image-4.ensures) (ap (λ m. bounded (product m c.args.next.now)) c.self.view_is)
+    c.of_rows.ensures ∙ rw (c.image.ensures, c.image-2.ensures, c.image-3.ensures, c.image-4.ensures) (ap (λ m. if_in_range (product m c.args.next.now)) c.self.view_is)

@@ -1,6 +1,6 @@
 use Rattle.std.proofs.Common.{◌%◌, ◌<◌, arith, rules, FitsSigned, w64, sym, ap, ◌∙◌}
 use Rattle.std.proofs.lemmas.Int.{to_z-of_z}
-use Rattle.hd_num.specs.Matrices.{bounded, product}
+use Rattle.hd_num.specs.Matrices.{if_in_range, product}
 use Rattle.hd_num.specs.Ops.{op_matrix}
 use Rattle.hd_num.specs.Turns.{turns}
 use Rattle.hd_num.proofs.Shapes.{bounded-in_range, bounded-some}
@@ -13,7 +13,7 @@ returns-in-Translate c =
     let x : FitsSigned w64 c.in-Translate.v.x = search rules in
     let y : FitsSigned w64 c.in-Translate.v.y = search rules in
     let z : FitsSigned w64 c.in-Translate.v.z = search rules in
-    c.of_rows.ensures ∙ rw (to_z-of_z w64 _ x, to_z-of_z w64 _ y, to_z-of_z w64 _ z) (ap (λ op. bounded (op_matrix op)) (sym c.in-Translate.is))
+    c.of_rows.ensures ∙ rw (to_z-of_z w64 _ x, to_z-of_z w64 _ y, to_z-of_z w64 _ z) (ap (λ op. if_in_range (op_matrix op)) (sym c.in-Translate.is))
 
 pub returns-in-Scale : goal.returns-in-Scale
 unfolding op_matrix
@@ -21,14 +21,14 @@ returns-in-Scale c =
     let x : FitsSigned w64 c.in-Scale.v.x = search rules in
     let y : FitsSigned w64 c.in-Scale.v.y = search rules in
     let z : FitsSigned w64 c.in-Scale.v.z = search rules in
-    c.of_rows-in-Scale.ensures ∙ rw (to_z-of_z w64 _ x, to_z-of_z w64 _ y, to_z-of_z w64 _ z) (ap (λ op. bounded (op_matrix op)) (sym c.in-Scale.is))
+    c.of_rows-in-Scale.ensures ∙ rw (to_z-of_z w64 _ x, to_z-of_z w64 _ y, to_z-of_z w64 _ z) (ap (λ op. if_in_range (op_matrix op)) (sym c.in-Scale.is))
 
 pub returns-in-Rotate : goal.returns-in-Rotate
 unfolding op_matrix
 returns-in-Rotate c =
     let h : c.in-Rotate.k % 4 < 4 = omega arith in
     let whole = bounded-in_range (turns c.in-Rotate.axis (c.in-Rotate.k % 4)) (IsMatrix-turns c.in-Rotate.axis (c.in-Rotate.k % 4) h).within in
-    rw c.quarter_turn.ensures (whole ∙ ap (λ op. bounded (op_matrix op)) (sym c.in-Rotate.is))
+    rw c.quarter_turn.ensures (whole ∙ ap (λ op. if_in_range (op_matrix op)) (sym c.in-Rotate.is))
 
 pub returns-in_err-compose-in-RotateXyz : goal.returns-in_err-compose-in-RotateXyz
 returns-in_err-compose-in-RotateXyz c =
@@ -47,8 +47,8 @@ returns-in_ok-compose-in-RotateXyz c =
     let second = c.quarter_turn-in-RotateXyz-2.result in
     let two = bounded-some (product first second) c.in_ok-compose-in-RotateXyz.field-0 c.in_ok-compose-in-RotateXyz.ensures in
     c.compose-in-RotateXyz.ensures
-    ∙ rw (two, c.quarter_turn-in-RotateXyz.ensures, c.quarter_turn-in-RotateXyz-2.ensures, c.quarter_turn-in-RotateXyz-3.ensures) (ap (λ op. bounded (op_matrix op)) (sym c.in-RotateXyz.is))
+    ∙ rw (two, c.quarter_turn-in-RotateXyz.ensures, c.quarter_turn-in-RotateXyz-2.ensures, c.quarter_turn-in-RotateXyz-3.ensures) (ap (λ op. if_in_range (op_matrix op)) (sym c.in-RotateXyz.is))
 
 pub returns-in-Transform : goal.returns-in-Transform
 unfolding op_matrix
-returns-in-Transform c = c.bounded.ensures ∙ ap (λ op. bounded (op_matrix op)) (sym c.in-Transform.is)
+returns-in-Transform c = c.if_in_range.ensures ∙ ap (λ op. if_in_range (op_matrix op)) (sym c.in-Transform.is)

@@ -1,5 +1,6 @@
-use Rattle.std.proofs.Common.{◌≡◌, ℕ, ◌-◌, suc, List, length, map, drop, ap, ◌∙◌, arith}
+use Rattle.std.proofs.Common.{◌≡◌, ◌-◌, suc, length, map, drop, ap, ◌∙◌, arith}
 use Rattle.std.specs.FinMap.{get}
+use Rattle.hd_tokens.specs.Locators.{Locator}
 use Rattle.hd_value.specs.Maps.{overlaid_at}
 use Rattle.hd_value.proofs.Overlaying.{overlaid_step, overlaid_last, overlaid_none}
 use Rattle.hd_value.proofs.container.Container.overlay.Goals as goal
@@ -16,7 +17,7 @@ loop-left-init c = record {
 pub loop-left-preserved : goal.loop-left-preserved
 loop-left-preserved c =
     let next : c.loop-left.left ≡ suc (c.loop-left.left - 1) = omega arith in
-    let laid : (at : List (List ℕ)) → get c.loop-left.whole at ≡ overlaid_at (map (λ part. part.now) (drop (suc (c.loop-left.left - 1)) c.args.parts.now)) at =
+    let laid : (at : Locator) → get c.loop-left.whole at ≡ overlaid_at (map (λ part. part.now) (drop (suc (c.loop-left.left - 1)) c.args.parts.now)) at =
     λ at. c.loop-left.invariant.laid at ∙ ap (λ k. overlaid_at (map (λ part. part.now) (drop k c.args.parts.now)) at) next
     in
     record {

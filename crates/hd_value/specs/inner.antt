@@ -1,0 +1,4 @@
+pub mod Depths
+pub mod Entries
+pub mod Falls
+pub mod Overlays
