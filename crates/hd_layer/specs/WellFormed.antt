@@ -111,12 +111,12 @@ has_value (Some role) name value = has_form role value
 abbrev pub is_property : Property → Bool
 is_property p = has_value (attribute_kind_of p.name) p.name p.value
 
--- no name stands twice
+-- no name is twice
 abbrev pub are_distinct : List (List ℕ) → Bool
 are_distinct [] = true
 are_distinct (name ∷ names) = not (list_any (bytes_eq name) names) && are_distinct names
 
--- a prim below the root, of used properties, each of which stands once
+-- a prim below the root, of used properties, each of which is once
 abbrev pub is_prim_spec : PrimSpec → Bool
 is_prim_spec p = is_below_root p.path && list_all is_property p.properties && are_distinct (map (λ q. q.name) p.properties)
 

@@ -14,7 +14,7 @@ pub enum Edit {
         kind: Token,
         path: Path,
     },
-    /// The prim has the property. `None` stands for a property that is not used, which changes nothing.
+    /// The prim has the property. `None` is for a property that is not used, which changes nothing.
     Set {
         path: Path,
         property: Option<Property>,
@@ -28,7 +28,7 @@ pub enum Edit {
     Remove {
         path: Path,
     },
-    /// The prim and all prims below it stand at another path.
+    /// The prim and all prims below it are at another path.
     Rename {
         from: Path,
         to: Path,

@@ -15,7 +15,7 @@ pub enum LayerWhy {
     Syntax,
     /// The bytes are no UTF-8.
     NotUtf8,
-    /// The name stands there before.
+    /// The name is there before.
     Twice,
     /// The token has a meaning that is left out.
     LeftOut,

@@ -3,7 +3,7 @@ use Rattle.std.proofs.Common.{◌≡◌, ℕ, zero, suc, ◌≤◌, Bool, true, 
 use Rattle.std.proofs.lemmas.Bool.{eqb-true}
 use Rattle.std.proofs.lemmas.List.{take-append-drop}
 use Rattle.std.specs.List.{prefix_len}
-use Rattle.hd_lexer.specs.Lexing.{Token, cut, is_blank, is_comment, line_after, line_over, piece_at, at_line}
+use Rattle.hd_lexer.specs.Lexing.{Token, cut, is_blank, is_comment, line_after, line_over, raw_token_at, at_line}
 use Rattle.hd_lexer.specs.Laws.{comment_after, AreTokens}
 use Rattle.hd_lexer.proofs.Runs.{one_more}
 use Rattle.hd_lexer.proofs.Skipping.{cut_skip}
@@ -51,10 +51,10 @@ are_tokens (suc n) line true (b ∷ bs) fits = by (b == 10) refl (are_tokens n (
         rw same_cut (blank_before true line b bs (from true (line_after line b) bs) refl (subst (λ c. AreTokens c (line_after line b) bs (from true (line_after line b) bs)) (sym after) more))
 are_tokens (suc n) line false (b ∷ bs) fits =
     by (is_blank b) refl (b == 35) refl (are_tokens n (line_after line b) true bs (omega arith)) (are_tokens n (line_after line b) false bs (omega arith))
-    (are_tokens n (line_over (line_after line b) (take (piece_at b bs).more bs)) false (drop (piece_at b bs).more bs) (omega (arith, length-drop (piece_at b bs).more bs)))
+    (are_tokens n (line_over (line_after line b) (take (raw_token_at b bs).more bs)) false (drop (raw_token_at b bs).more bs) (omega (arith, length-drop (raw_token_at b bs).more bs)))
   where
     by : (t : Bool) → is_blank b ≡ t → (u : Bool) → (b == 35) ≡ u → AreTokens true (line_after line b) bs (from true (line_after line b) bs) → AreTokens false (line_after line b) bs (from false (line_after line b) bs)
-        → AreTokens false (line_over (line_after line b) (take (piece_at b bs).more bs)) (drop (piece_at b bs).more bs) (from false (line_over (line_after line b) (take (piece_at b bs).more bs)) (drop (piece_at b bs).more bs)) → AreTokens false line (b ∷ bs) (cut 0 line (b ∷ bs))
+        → AreTokens false (line_over (line_after line b) (take (raw_token_at b bs).more bs)) (drop (raw_token_at b bs).more bs) (from false (line_over (line_after line b) (take (raw_token_at b bs).more bs)) (drop (raw_token_at b bs).more bs)) → AreTokens false line (b ∷ bs) (cut 0 line (b ∷ bs))
     by true e true f commented plain next =
         let same : b ≡ 35 = eqb-true b 35 f in
         let whole : cut 0 line (b ∷ bs) ≡ from true (line_after line b) bs = rw same refl in
@@ -65,7 +65,7 @@ are_tokens (suc n) line false (b ∷ bs) fits =
         let after : comment_after false b ≡ false = rw f refl in
         rw whole (blank_before false line b bs (from false (line_after line b) bs) e (subst (λ c. AreTokens c (line_after line b) bs (from false (line_after line b) bs)) (sym after) plain))
     by false e u f commented plain next =
-        let p = piece_at b bs in
+        let p = raw_token_at b bs in
         let whole : cut 0 line (b ∷ bs) ≡ at_line line p ∷ cut 0 (line_over (line_after line b) (take p.more bs)) (drop p.more bs) =
         (let first : cut 0 line (b ∷ bs) ≡ at_line line p ∷ cut p.more (line_after line b) bs = rw e refl in first) ∙ ap (λ (ts : List Token). at_line line p ∷ ts) (cut_skip p.more (line_after line b) bs) in
         rw whole (

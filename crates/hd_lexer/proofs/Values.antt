@@ -7,8 +7,8 @@ use Rattle.std.proofs.Math.Nat.{pow-suc, one-le-pow, mul_assoc, mul_comm, le-mul
 use Rattle.std.specs.List.{list_all}
 use Rattle.hd_path.specs.Names.{is_digit}
 use Rattle.hd_lexer.specs.Lexing.{digits, fraction_len}
-use Rattle.hd_lexer.specs.Decimals.{Decimal, is_zero, digits_from, parts_of, behind_sign, behind_whole}
-use Rattle.hd_lexer.specs.Exactly.{behind_point, is_nought, sum_from, digit_sum, zeros_from, last_zeros, places_left, places_right, is_turn, is_one}
+use Rattle.hd_lexer.specs.Decimals.{Decimal, is_zero_digit, digits_from, parts_of, after_sign, after_whole}
+use Rattle.hd_lexer.specs.Exact.{after_point, is_zero, sum_from, digit_sum, zeros_from, last_zeros, places_left, places_right, is_turn, is_one}
 use Rattle.hd_lexer.specs.Laws.{numeral, exponent_above, HasSize}
 use Rattle.hd_lexer.proofs.Runs.{all_taken}
 use Rattle.hd_lexer.proofs.Turns.{nines}
@@ -97,41 +97,41 @@ digits_both n (x ∷ xs) ys = digits_both (10 * n + (x - 48)) xs ys
 -- the digits of a number are digits
 pub record AreDigits (d : Decimal) : Type 0 where
   pub whole : list_all is_digit d.whole ≡ true
-  pub behind : list_all is_digit (behind_point d) ≡ true
+  pub after : list_all is_digit (after_point d) ≡ true
 
 reads : (d : Decimal) → AreDigits d → Reads (numeral d) (digit_sum d) (last_zeros d)
-reads d are = rw (digits_both 0 d.whole (behind_point d)) (reads_on _ _ _ (behind_point d) are.behind (reads_on 0 0 0 d.whole are.whole reads_none))
+reads d are = rw (digits_both 0 d.whole (after_point d)) (reads_on _ _ _ (after_point d) are.after (reads_on 0 0 0 d.whole are.whole reads_none))
 
 -- ---- 0
 
-zeros_are : (n : ℕ) (ds : List ℕ) → list_all is_zero ds ≡ true → n ≡ 0 → digits_from n ds ≡ 0
+zeros_are : (n : ℕ) (ds : List ℕ) → list_all is_zero_digit ds ≡ true → n ≡ 0 → digits_from n ds ≡ 0
 zeros_are n [] h e = e
 zeros_are n (d ∷ ds) h e =
-    let both = and_parts (is_zero d) (list_all is_zero ds) h in
+    let both = and_parts (is_zero_digit d) (list_all is_zero_digit ds) h in
     let same : d ≡ 48 = eqb-true d 48 both.0 in
     zeros_are (10 * n + (d - 48)) ds both.1 (omega arith)
 
-are_zeros : (n : ℕ) (ds : List ℕ) → list_all is_digit ds ≡ true → digits_from n ds ≡ 0 → (n ≡ 0) × (list_all is_zero ds ≡ true)
+are_zeros : (n : ℕ) (ds : List ℕ) → list_all is_digit ds ≡ true → digits_from n ds ≡ 0 → (n ≡ 0) × (list_all is_zero_digit ds ≡ true)
 are_zeros n [] all e = (e, refl)
 are_zeros n (d ∷ ds) all e =
     let both = and_parts (is_digit d) (list_all is_digit ds) all in
     let low = leb-true 48 d (and_parts (nat_le 48 d) (nat_le d 57) both.0).0 in
     let rest = are_zeros (10 * n + (d - 48)) ds both.1 e in
-    let here : is_zero d ≡ true = eq-eqb d 48 (omega (arith, rest.0, low)) in
+    let here : is_zero_digit d ≡ true = eq-eqb d 48 (omega (arith, rest.0, low)) in
     (omega (arith, rest.0), rw here rest.1)
 
-nought_numeral : (d : Decimal) → is_nought d ≡ true → numeral d ≡ 0
+nought_numeral : (d : Decimal) → is_zero d ≡ true → numeral d ≡ 0
 nought_numeral d h =
-    let both = and_parts (list_all is_zero d.whole) (list_all is_zero (behind_point d)) h in
-    digits_both 0 d.whole (behind_point d) ∙ zeros_are _ (behind_point d) both.1 (zeros_are 0 d.whole both.0 refl)
+    let both = and_parts (list_all is_zero_digit d.whole) (list_all is_zero_digit (after_point d)) h in
+    digits_both 0 d.whole (after_point d) ∙ zeros_are _ (after_point d) both.1 (zeros_are 0 d.whole both.0 refl)
 
-numeral_nought : (d : Decimal) → AreDigits d → numeral d ≡ 0 → is_nought d ≡ true
+numeral_nought : (d : Decimal) → AreDigits d → numeral d ≡ 0 → is_zero d ≡ true
 numeral_nought d are e =
-    let behind = are_zeros (digits_from 0 d.whole) (behind_point d) are.behind (sym (digits_both 0 d.whole (behind_point d)) ∙ e) in
-    let whole = are_zeros 0 d.whole are.whole behind.0 in
-    rw whole.1 behind.1
+    let after = are_zeros (digits_from 0 d.whole) (after_point d) are.after (sym (digits_both 0 d.whole (after_point d)) ∙ e) in
+    let whole = are_zeros 0 d.whole are.whole after.0 in
+    rw whole.1 after.1
 
-pub zero_exact : (d : Decimal) → AreDigits d → (is_nought d ≡ true) ↔ HasSize d 0
+pub zero_exact : (d : Decimal) → AreDigits d → (is_zero d ≡ true) ↔ HasSize d 0
 zero_exact d are = (
   (λ h. rw (nought_numeral d h) (omega arith)),
   (λ e. numeral_nought d are (elim (eq-zero-or-pos (numeral d)) [ inl h ↦ h | inr h ↦ (let some = mul-pos h (ten_some (exponent_above d)) in absurd (omega (arith, some, e))) ])),
@@ -217,13 +217,13 @@ turn_read n s z up left k r e = elim r.last [
     nines_of x = omega arith
 
 sum_nines : (d : Decimal) → numeral d % 9 ≡ digit_sum d % 9
-sum_nines d = ap (λ n. n % 9) (digits_both 0 d.whole (behind_point d)) ∙ nines (digits_from 0 d.whole) (sum_from 0 d.whole) (behind_point d) (nines 0 0 d.whole refl)
+sum_nines d = ap (λ n. n % 9) (digits_both 0 d.whole (after_point d)) ∙ nines (digits_from 0 d.whole) (sum_from 0 d.whole) (after_point d) (nines 0 0 d.whole refl)
 
 pub turn_exact : (d : Decimal) → AreDigits d → (is_turn d ≡ true) ↔ ((k : ℕ) × HasSize d (90 * k))
 turn_exact d are = (forth, back)
   where
     forth : is_turn d ≡ true → (k : ℕ) × HasSize d (90 * k)
-    forth h = elim (or_cases (is_nought d) ((digit_sum d % 9 == 0) && nat_le (places_left d + 1) (places_right d)) h) [
+    forth h = elim (or_cases (is_zero d) ((digit_sum d % 9 == 0) && nat_le (places_left d + 1) (places_right d)) h) [
       | inl nought ↦ (0, (zero_exact d are).0 nought)
       | inr turns ↦ (
           let both = and_parts (digit_sum d % 9 == 0) (nat_le (places_left d + 1) (places_right d)) turns in
@@ -236,14 +236,14 @@ turn_exact d are = (forth, back)
       | inr both ↦ (
           let sum : (digit_sum d % 9 == 0) ≡ true = eq-eqb (digit_sum d % 9) 0 (sym (sum_nines d) ∙ both.0) in
           let places : nat_le (places_left d + 1) (places_right d) ≡ true = le-leb (places_left d + 1) (places_right d) both.1 in
-          rw (sum, places) (or-true (is_nought d)))
+          rw (sum, places) (or-true (is_zero d)))
     ]
 
 -- ---- the parts of a text
 
-all_behind : (bs : List ℕ) → list_all is_digit (drop 1 (take (fraction_len true bs) bs)) ≡ true
-all_behind [] = refl
-all_behind (b ∷ bs) = by (b == 46) refl
+all_after : (bs : List ℕ) → list_all is_digit (drop 1 (take (fraction_len true bs) bs)) ≡ true
+all_after [] = refl
+all_after (b ∷ bs) = by (b == 46) refl
   where
     by : (t : Bool) → (b == 46) ≡ t → list_all is_digit (drop 1 (take (fraction_len true (b ∷ bs)) (b ∷ bs))) ≡ true
     by true e = rw (e, add-one (digits bs)) (all_taken is_digit bs)
@@ -251,4 +251,4 @@ all_behind (b ∷ bs) = by (b == 46) refl
 
 pub parts_digits : (text : List ℕ) → AreDigits (parts_of text)
 unfolding parts_of
-parts_digits text = record { whole = all_taken is_digit (behind_sign text); behind = all_behind (behind_whole text) }
+parts_digits text = record { whole = all_taken is_digit (after_sign text); after = all_after (after_whole text) }

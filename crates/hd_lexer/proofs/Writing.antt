@@ -9,14 +9,14 @@ use Rattle.hd_path.specs.Names.{is_letter, is_digit, is_word}
 use Rattle.hd_tokens.specs.Names.{is_non_finite_word, is_plain_word}
 use Rattle.hd_lexer.specs.declared.lexer.Kind.{Kind}
 use Rattle.hd_lexer.specs.declared.lexer.Kind.TheVariants.{Word, Number, Text, Asset, PathText, OpenRound, CloseRound, OpenSquare, CloseSquare, OpenCurly, CloseCurly, Equals, Comma, Colon, Semicolon, Point}
-use Rattle.hd_lexer.specs.Lexing.{Piece, Quoting, begins, digits, fraction_len, sign_len, is_sign, is_exponent, exponent_len, mantissa_len, number_len, number_piece, signed_piece, word_piece, no_piece, spelled, mark_of, inside_from, inside_len, on_line, between_three, short_piece, long_piece, quoted, piece_at}
+use Rattle.hd_lexer.specs.Lexing.{RawToken, Quoting, begins, digits, fraction_len, sign_len, is_sign, is_exponent, exponent_len, mantissa_len, number_len, number_token, signed_token, word_token, no_token, token_of, mark_of, inside_from, inside_len, on_line, between_three, short_token, long_token, quoted_token, raw_token_at}
 use Rattle.hd_lexer.specs.Laws.{IsWritten, in_path, IsEnclosed, IsUnsigned}
 use Rattle.hd_lexer.specs.Laws.IsNumber.{numeric, non_finite, minus_infinity}
 use Rattle.hd_lexer.proofs.Numbers.{number_is, no_number}
 use Rattle.hd_lexer.proofs.Runs.{run_ends, all_taken, drop_on}
 
 -- what the piece says of the byte and those after it
-abbrev pub Writes : ℕ → List ℕ → Piece → Type 0
+abbrev pub Writes : ℕ → List ℕ → RawToken → Type 0
 Writes b bs p = IsWritten p.kind (b ∷ take p.more bs) (drop p.more bs) p.text
 
 choose : {A : Type 0} (P : A → Type 0) (t : Bool) (x y : A) → (t ≡ true → P x) → (t ≡ false → P y) → P (if t then x else y)
@@ -51,7 +51,7 @@ number_ends bs = by (mantissa_len bs == 0) refl
 
 -- ---- words, numbers and marks
 
-word_writes : (b : ℕ) (bs : List ℕ) → is_letter b ≡ true → Writes b bs (word_piece (b ∷ bs) (prefix_len is_word bs))
+word_writes : (b : ℕ) (bs : List ℕ) → is_letter b ≡ true → Writes b bs (word_token (b ∷ bs) (prefix_len is_word bs))
 word_writes b bs letter =
     let n = prefix_len is_word bs in
     let text = b ∷ take n bs in
@@ -60,31 +60,31 @@ word_writes b bs letter =
     (λ e. (non_finite e (run_ends is_word bs), refl))
     (λ e. ((let plain : is_plain_word text ≡ true = rw (letter, all_taken is_word bs, e) refl in plain), run_ends is_word bs, refl)))
 
-bad_writes : (b : ℕ) (bs : List ℕ) → is_word b ≡ false → Writes b bs no_piece
+bad_writes : (b : ℕ) (bs : List ℕ) → is_word b ≡ false → Writes b bs no_token
 bad_writes b bs none = (refl, none, inl refl)
 
-number_writes : (b : ℕ) (bs : List ℕ) → (number_len (b ∷ bs) == 0) ≡ false → Writes b bs (number_piece (b ∷ bs) (number_len (b ∷ bs)))
+number_writes : (b : ℕ) (bs : List ℕ) → (number_len (b ∷ bs) == 0) ≡ false → Writes b bs (number_token (b ∷ bs) (number_len (b ∷ bs)))
 number_writes b bs some = by (number_len (b ∷ bs)) some (number_is (b ∷ bs) some) (number_ends (b ∷ bs) some)
   where
-    by : (n : ℕ) → (n == 0) ≡ false → IsUnsigned (take n (b ∷ bs)) → begins is_digit (drop n (b ∷ bs)) ≡ false → Writes b bs (number_piece (b ∷ bs) n)
+    by : (n : ℕ) → (n == 0) ≡ false → IsUnsigned (take n (b ∷ bs)) → begins is_digit (drop n (b ∷ bs)) ≡ false → Writes b bs (number_token (b ∷ bs) n)
     by zero h is k = absurd (cc)
     by (suc n) h is k = let less : suc n - 1 ≡ n = omega arith in rw less (numeric (inl is) k, refl)
 
 starts_front : (bs p : List ℕ) → starts_with nat_eq bs p ≡ true → take (length p) bs ≡ p
 starts_front bs p h = ap (take (length p)) ((starts_is Decides-eqb bs p (starts_with nat_eq bs p) refl).0 h) ∙ take-append_seam p (drop (length p) bs)
 
-signed_writes : (b : ℕ) (bs : List ℕ) → is_word b ≡ false → is_sign b ≡ true → Writes b bs (signed_piece (b ∷ bs))
+signed_writes : (b : ℕ) (bs : List ℕ) → is_word b ≡ false → is_sign b ≡ true → Writes b bs (signed_token (b ∷ bs))
 signed_writes b bs none sign =
-    choose (Writes b bs) (not (number_len bs == 0)) (spelled Number (b ∷ bs) (number_len bs)) (if starts_with nat_eq (b ∷ bs) (codes "-inf") then spelled Number (b ∷ bs) 3 else no_piece)
+    choose (Writes b bs) (not (number_len bs == 0)) (token_of Number (b ∷ bs) (number_len bs)) (if starts_with nat_eq (b ∷ bs) (codes "-inf") then token_of Number (b ∷ bs) 3 else no_token)
     (λ h. (let n = number_len bs in
     let same : take (n + 1) (b ∷ bs) ≡ b ∷ take n bs = rw (add-one n) refl in
     rw same (numeric (inr (sign, number_is bs (not-true (n == 0) h))) (number_ends bs (not-true (n == 0) h)), refl)))
-    (λ _. choose (Writes b bs) (starts_with nat_eq (b ∷ bs) (codes "-inf")) (spelled Number (b ∷ bs) 3) no_piece
+    (λ _. choose (Writes b bs) (starts_with nat_eq (b ∷ bs) (codes "-inf")) (token_of Number (b ∷ bs) 3) no_token
     (λ h. (minus_infinity (starts_front (b ∷ bs) (codes "-inf") h), refl))
     (λ _. bad_writes b bs none))
 
 -- a mark, or a byte that begins nothing
-mark_writes : (b : ℕ) (bs : List ℕ) → is_word b ≡ false → Writes b bs (spelled (mark_of b) (b ∷ bs) 0)
+mark_writes : (b : ℕ) (bs : List ℕ) → is_word b ≡ false → Writes b bs (token_of (mark_of b) (b ∷ bs) 0)
 mark_writes b bs none =
     next 40 OpenRound _ (λ e. (e, refl)) (next 41 CloseRound _ (λ e. (e, refl)) (next 91 OpenSquare _ (λ e. (e, refl)) (next 93 CloseSquare _ (λ e. (e, refl)) (next 123 OpenCurly _ (λ e. (e, refl)) (next 125 CloseCurly _ (λ e. (e, refl))
     (next 61 Equals _ (λ e. (e, refl)) (next 44 Comma _ (λ e. (e, refl)) (next 58 Colon _ (λ e. (e, refl)) (next 59 Semicolon _ (λ e. (e, refl)) (next 46 Point _ (λ e. (e, refl)) (refl, none, inr refl)))))))))))
@@ -181,28 +181,28 @@ three_more k = omega arith
 five_more : (k : ℕ) → k + 5 ≡ suc (suc (suc (suc (suc k))))
 five_more k = omega arith
 
--- what a kind of token that stands between marks may hold
+-- what a kind of token that is between marks may hold
 short_writes : (kind : Kind) (b mark : ℕ) (bs : List ℕ) (escapes : Bool) → is_word b ≡ false → ((k : ℕ) → inside_len (on_line mark escapes) bs ≡ Some k → (rest : List ℕ) → IsWritten kind (b ∷ (take k bs ++ mark ∷ [])) rest (take k bs))
-    → Writes b bs (short_piece kind bs (inside_len (on_line mark escapes) bs))
+    → Writes b bs (short_token kind bs (inside_len (on_line mark escapes) bs))
 short_writes kind b mark bs escapes none is = by (inside_len (on_line mark escapes) bs) refl
   where
-    by : (o : Option ℕ) → inside_len (on_line mark escapes) bs ≡ o → Writes b bs (short_piece kind bs o)
+    by : (o : Option ℕ) → inside_len (on_line mark escapes) bs ≡ o → Writes b bs (short_token kind bs o)
     by None e = bad_writes b bs none
     by (Some k) e = let front : take (k + 1) bs ≡ take k bs ++ mark ∷ [] = closed (on_line mark escapes) k bs e in rw front (is k e (drop (k + 1) bs))
 
-quoted_writes : (kind : Kind) (mark : ℕ) (bs : List ℕ) (escapes : Bool) → is_word mark ≡ false → ((bytes text rest : List ℕ) → IsEnclosed mark bytes text → IsWritten kind bytes rest text) → Writes mark bs (quoted kind mark escapes bs)
+quoted_writes : (kind : Kind) (mark : ℕ) (bs : List ℕ) (escapes : Bool) → is_word mark ≡ false → ((bytes text rest : List ℕ) → IsEnclosed mark bytes text → IsWritten kind bytes rest text) → Writes mark bs (quoted_token kind mark escapes bs)
 quoted_writes kind mark bs escapes none_here is =
-    choose (Writes mark bs) (starts_with nat_eq bs (mark ∷ mark ∷ [])) (long_piece kind bs short (inside_len (between_three mark escapes) (drop 2 bs))) short
+    choose (Writes mark bs) (starts_with nat_eq bs (mark ∷ mark ∷ [])) (long_token kind bs short (inside_len (between_three mark escapes) (drop 2 bs))) short
     (λ h. by (starts_front bs (mark ∷ mark ∷ []) h) (inside_len (between_three mark escapes) (drop 2 bs)) refl)
     (λ _. short_is)
   where
-    short : Piece
-    short = short_piece kind bs (inside_len (on_line mark escapes) bs)
+    short : RawToken
+    short = short_token kind bs (inside_len (on_line mark escapes) bs)
 
-    short_is : Writes mark bs (short_piece kind bs (inside_len (on_line mark escapes) bs))
+    short_is : Writes mark bs (short_token kind bs (inside_len (on_line mark escapes) bs))
     short_is = short_writes kind mark mark bs escapes none_here (λ k _ rest. is (mark ∷ (take k bs ++ mark ∷ [])) (take k bs) rest (inl refl))
 
-    by : take 2 bs ≡ mark ∷ mark ∷ [] → (o : Option ℕ) → inside_len (between_three mark escapes) (drop 2 bs) ≡ o → Writes mark bs (long_piece kind bs (short_piece kind bs (inside_len (on_line mark escapes) bs)) o)
+    by : take 2 bs ≡ mark ∷ mark ∷ [] → (o : Option ℕ) → inside_len (between_three mark escapes) (drop 2 bs) ≡ o → Writes mark bs (long_token kind bs (short_token kind bs (inside_len (on_line mark escapes) bs)) o)
     by two None e = short_is
     by two (Some k) e =
         let inner : take (k + 3) (drop 2 bs) ≡ take k (drop 2 bs) ++ mark ∷ mark ∷ mark ∷ [] = closed (between_three mark escapes) k (drop 2 bs) e in
@@ -222,16 +222,16 @@ no_word : (b : ℕ) (bs : List ℕ) → is_letter b ≡ false → (number_len (b
 no_word b bs letter number = let digit = no_number b bs number in rw (letter, digit) refl
 
 -- the piece at a byte holds its text
-pub piece_writes : (b : ℕ) (bs : List ℕ) → Writes b bs (piece_at b bs)
-unfolding piece_at
+pub piece_writes : (b : ℕ) (bs : List ℕ) → Writes b bs (raw_token_at b bs)
+unfolding raw_token_at
 piece_writes b bs =
     choose (Writes b bs) (is_letter b) _ _ (λ h. word_writes b bs h) (λ letter.
     choose (Writes b bs) (not (number_len (b ∷ bs) == 0)) _ _ (λ h. number_writes b bs (not-true (number_len (b ∷ bs) == 0) h)) (λ number. let none : is_word b ≡ false = no_word b bs letter (not-false (number_len (b ∷ bs) == 0) number) in
     choose (Writes b bs) (is_sign b) _ _ (λ h. signed_writes b bs none h) (λ _.
     choose (Writes b bs) ((b == 34) || (b == 39)) _ _ (λ h. elim (or_cases (b == 34) (b == 39) h) [
-      | inl e ↦ subst (λ m. Writes m bs (quoted Text m true bs)) (sym (eqb-true b 34 e)) (quoted_writes Text 34 bs true refl (λ bytes text rest is. inl is))
-      | inr e ↦ subst (λ m. Writes m bs (quoted Text m true bs)) (sym (eqb-true b 39 e)) (quoted_writes Text 39 bs true refl (λ bytes text rest is. inr is))
+      | inl e ↦ subst (λ m. Writes m bs (quoted_token Text m true bs)) (sym (eqb-true b 34 e)) (quoted_writes Text 34 bs true refl (λ bytes text rest is. inl is))
+      | inr e ↦ subst (λ m. Writes m bs (quoted_token Text m true bs)) (sym (eqb-true b 39 e)) (quoted_writes Text 39 bs true refl (λ bytes text rest is. inr is))
     ]) (λ _.
-    choose (Writes b bs) (b == 64) _ _ (λ e. subst (λ m. Writes m bs (quoted Asset m false bs)) (sym (eqb-true b 64 e)) (quoted_writes Asset 64 bs false refl (λ bytes text rest is. is))) (λ _.
+    choose (Writes b bs) (b == 64) _ _ (λ e. subst (λ m. Writes m bs (quoted_token Asset m false bs)) (sym (eqb-true b 64 e)) (quoted_writes Asset 64 bs false refl (λ bytes text rest is. is))) (λ _.
     choose (Writes b bs) (b == 60) _ _ (λ e. short_writes PathText b 62 bs false none (λ k found rest. (ap (λ x. x ∷ (take k bs ++ 62 ∷ [])) (eqb-true b 60 e), in_path_text k bs found))) (λ _.
     mark_writes b bs none))))))

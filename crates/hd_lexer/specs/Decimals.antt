@@ -5,7 +5,7 @@ use Rattle.hd_layer.specs.declared.limits.Which.TheVariants.{Literal}
 use Rattle.hd_layer.specs.Limits.{limit_of}
 use Rattle.hd_lexer.specs.Lexing.{begins, digits, sign_len, fraction_len}
 
--- the parts of a number: its digits before the point, the point with those behind it, and its exponent
+-- the parts of a number: its digits before the point, the point with those after it, and its exponent
 pub record Decimal : Type 0 where
   pub negative : Bool
   pub whole : List ℕ
@@ -15,25 +15,25 @@ pub record Decimal : Type 0 where
 abbrev pub is_minus : ℕ → Bool
 is_minus b = b == 45
 
-abbrev pub is_zero : ℕ → Bool
-is_zero b = b == 48
+abbrev pub is_zero_digit : ℕ → Bool
+is_zero_digit b = b == 48
 
-abbrev pub behind_sign : List ℕ → List ℕ
-behind_sign text = drop (sign_len text) text
+abbrev pub after_sign : List ℕ → List ℕ
+after_sign text = drop (sign_len text) text
 
-abbrev pub behind_whole : List ℕ → List ℕ
-behind_whole text = drop (digits (behind_sign text)) (behind_sign text)
+abbrev pub after_whole : List ℕ → List ℕ
+after_whole text = drop (digits (after_sign text)) (after_sign text)
 
 -- the parts of the text of a number
 unfoldable pub parts_of : List ℕ → Decimal
 parts_of text = record {
   negative = begins is_minus text;
-  whole = take (digits (behind_sign text)) (behind_sign text);
-  fraction = take (fraction_len true (behind_whole text)) (behind_whole text);
-  exponent = drop (fraction_len true (behind_whole text)) (behind_whole text);
+  whole = take (digits (after_sign text)) (after_sign text);
+  fraction = take (fraction_len true (after_whole text)) (after_whole text);
+  exponent = drop (fraction_len true (after_whole text)) (after_whole text);
 }
 
--- what digits say, behind those that said n
+-- what digits say, after those that said n
 abbrev pub digits_from : ℕ → List ℕ → ℕ
 digits_from n ds = fold (λ m d. 10 * m + (d - 48)) n ds
 
@@ -41,9 +41,9 @@ digits_from n ds = fold (λ m d. 10 * m + (d - 48)) n ds
 abbrev pub amount : Decimal → ℤ
 amount d = if d.negative then neg_ℤ (pos (digits_from 0 d.whole)) else pos (digits_from 0 d.whole)
 
--- an exponent, or a digit other than 0 behind the point
+-- an exponent, or a digit other than 0 after the point
 abbrev pub is_fractional : Decimal → Bool
-is_fractional d = not (list_all is_zero (drop 1 d.fraction)) || begins (λ b. true) d.exponent
+is_fractional d = not (list_all is_zero_digit (drop 1 d.fraction)) || begins (λ b. true) d.exponent
 
 -- a number whose absolute value is within the limit
 abbrev pub within_limit : ℤ → Option ℤ

@@ -7,7 +7,7 @@ use Rattle.hd_lexer.specs.declared.lexer.Kind.{Kind}
 use Rattle.hd_lexer.specs.declared.lexer.Kind.TheVariants.{Word, Number, Text, Asset, PathText, OpenRound, CloseRound, OpenSquare, CloseSquare, OpenCurly, CloseCurly, Equals, Comma, Colon, Semicolon, Point, Bad, End}
 use Rattle.hd_lexer.specs.Lexing.{begins, is_sign, is_exponent, is_blank, line_over, tokens_from, Token}
 use Rattle.hd_lexer.specs.Decimals.{Decimal, is_minus, digits_from, parts_of}
-use Rattle.hd_lexer.specs.Exactly.{behind_point, signed_exponent, exponent_of, is_nought, is_one, is_turn}
+use Rattle.hd_lexer.specs.Exact.{after_point, signed_exponent, exponent_of, is_zero, is_one, is_turn}
 
 -- in a comment after a byte: a `#` begins one, and a line feed ends it
 abbrev pub comment_after : Bool → ℕ → Bool
@@ -114,7 +114,7 @@ TokensAreTheText = (line : ℕ) (text : List ℕ) → AreTokens false line text 
 
 -- the digits before and after the point, read as one number
 abbrev pub numeral : Decimal → ℕ
-numeral d = digits_from 0 (d.whole ++ behind_point d)
+numeral d = digits_from 0 (d.whole ++ after_point d)
 
 abbrev pub exponent_above : Decimal → ℕ
 exponent_above d = if begins is_minus (signed_exponent d) then 0 else exponent_of d
@@ -124,11 +124,11 @@ exponent_below d = if begins is_minus (signed_exponent d) then exponent_of d els
 
 -- n is the absolute value: the numeral times ten to the exponent less the number of digits after the point
 abbrev pub HasSize : Decimal → ℕ → Type 0
-HasSize d n = numeral d * 10 ^ exponent_above d ≡ n * 10 ^ (length (behind_point d) + exponent_below d)
+HasSize d n = numeral d * 10 ^ exponent_above d ≡ n * 10 ^ (length (after_point d) + exponent_below d)
 
 -- what is judged to be 0 is 0, and nothing else is
 abbrev pub ZeroIsExact : Type 0
-ZeroIsExact = (text : List ℕ) → (is_nought (parts_of text) ≡ true) ↔ HasSize (parts_of text) 0
+ZeroIsExact = (text : List ℕ) → (is_zero (parts_of text) ≡ true) ↔ HasSize (parts_of text) 0
 
 -- what is judged to be 1 is 1, and nothing else is
 abbrev pub OneIsExact : Type 0

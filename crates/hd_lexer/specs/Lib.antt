@@ -1,6 +1,5 @@
 pub mod Lexing
-pub mod Scanned
 pub mod Decimals
-pub mod DecimalViews
-pub mod Exactly
+pub mod Exact
 pub mod Laws
+pub mod inner

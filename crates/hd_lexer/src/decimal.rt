@@ -5,8 +5,8 @@ ghost use Rattle.std.specs.List.{list_all};
 ghost use Rattle.hd_layer.specs.declared.limits.Which.TheVariants.{Literal};
 ghost use Rattle.hd_layer.specs.Limits.{limit_of};
 ghost use Rattle.hd_lexer.specs.Lexing.{begins};
-ghost use Rattle.hd_lexer.specs.Decimals.{is_minus, is_zero, digits_from, parts_of, amount, is_fractional, within_limit};
-ghost use Rattle.hd_lexer.specs.DecimalViews.{decimal_view};
+ghost use Rattle.hd_lexer.specs.Decimals.{is_minus, is_zero_digit, digits_from, parts_of, amount, is_fractional, within_limit};
+ghost use Rattle.hd_lexer.specs.inner.DecimalViews.{decimal_view};
 
 use crate::lexer::{digits_len, fraction_len, sign_len};
 use hd_layer::Which;
@@ -18,7 +18,7 @@ pub struct Decimal<'a> {
     pub negative: bool,
     /// The digits before the point.
     pub whole: &'a [u8],
-    /// The point and the digits behind it.
+    /// The point and the digits after it.
     pub fraction: &'a [u8],
     pub exponent: &'a [u8],
 }
@@ -38,8 +38,8 @@ pub fn parts_of(text: &[u8]) -> Decimal<'_>
     ensures { decimal_view result ≡ parts_of text.now }
 {
     let unsigned = &text[sign_len(text)..];
-    let (whole, behind) = unsigned.split_at(digits_len(unsigned));
-    let (fraction, exponent) = behind.split_at(fraction_len(true, behind));
+    let (whole, after) = unsigned.split_at(digits_len(unsigned));
+    let (fraction, exponent) = after.split_at(fraction_len(true, after));
     Decimal {
         negative: begins_minus(text),
         whole,
@@ -49,14 +49,14 @@ pub fn parts_of(text: &[u8]) -> Decimal<'_>
 }
 
 pub fn are_zeros(digits: &[u8]) -> bool
-    ensures { result ≡ list_all is_zero digits.now }
+    ensures { result ≡ list_all is_zero_digit digits.now }
 {
     digits.iter().all(|b| *b == b'0')
 }
 
-/// Are the digits behind the point all 0?
-fn has_zeros_behind(fraction: &[u8]) -> bool
-    ensures { result ≡ list_all is_zero (drop 1 fraction.now) }
+/// Are the digits after the point all 0?
+fn has_zeros_after(fraction: &[u8]) -> bool
+    ensures { result ≡ list_all is_zero_digit (drop 1 fraction.now) }
 {
     match fraction {
         [] => true,
@@ -70,11 +70,11 @@ fn is_some(bytes: &[u8]) -> bool
     !bytes.is_empty()
 }
 
-/// Has the number an exponent, or a digit other than 0 behind the point?
+/// Has the number an exponent, or a digit other than 0 after the point?
 pub fn is_fractional(number: &Decimal) -> bool
     ensures { result ≡ is_fractional (decimal_view number.now) }
 {
-    !has_zeros_behind(number.fraction) || is_some(number.exponent)
+    !has_zeros_after(number.fraction) || is_some(number.exponent)
 }
 
 /// What digits say, or the first number beyond the limit where they say more.

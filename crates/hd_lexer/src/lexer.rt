@@ -1,10 +1,10 @@
-//! Pieces of the text: what begins at a byte.
+//! Tokens: what begins at a byte of the text.
 
 ghost use Rattle.std.specs.Prelude.{◌≡◌, ◌≤◌, ◌+◌, ◌<◌, length, take, drop, codes, nat_eq, IfSome, IsTrue};
 ghost use Rattle.std.specs.List.{prefix_len, starts_with};
 ghost use Rattle.hd_path.specs.Names.{is_digit};
-ghost use Rattle.hd_lexer.specs.Lexing.{is_sign, is_exponent, is_space, is_blank, is_comment, mark_of, spelled, no_piece, word_kind, word_piece, fraction_len, sign_len, exponent_len, mantissa_len, number_len, number_piece, signed_piece, inside_len, on_line, between_three, short_piece, quoted, line_after, line_over, blank_more, tokens_from};
-ghost use Rattle.hd_lexer.specs.Scanned.{seen, quoting, front, BeginsToken};
+ghost use Rattle.hd_lexer.specs.Lexing.{is_sign, is_exponent, is_space, is_blank, is_comment, mark_of, token_of, no_token, word_kind, word_token, fraction_len, sign_len, exponent_len, mantissa_len, number_len, number_token, signed_token, inside_len, on_line, between_three, short_token, quoted_token, line_after, line_over, blank_more, tokens_from};
+ghost use Rattle.hd_lexer.specs.inner.Scanned.{token_view, quoting_view, front, BeginsToken};
 
 use hd_path::{is_letter, word_len};
 use hd_tokens::is_non_finite_word;
@@ -37,7 +37,7 @@ pub enum Kind {
 
 /// A token without its line, and how many bytes of it follow its first one.
 #[derive(Clone, Copy, Debug)]
-pub struct Piece<'a> {
+pub struct RawToken<'a> {
     pub kind: Kind,
     pub text: &'a [u8],
     pub more: usize,
@@ -48,9 +48,9 @@ pub struct Piece<'a> {
 struct Quoting<'a> {
     /// What closes it.
     close: &'a [u8],
-    /// May a line feed stand in it?
+    /// May a line feed be in it?
     lines: bool,
-    /// Does a backslash take the byte behind it along?
+    /// Does a backslash take the byte after it along?
     escapes: bool,
 }
 
@@ -73,7 +73,7 @@ pub fn is_space(b: u8) -> bool
     b == b' ' || b == b'\t' || b == b'\r' || b == b'\n'
 }
 
-/// White space, or the begin of a comment.
+/// White space, or the beginning of a comment.
 fn is_blank(b: u8) -> bool
     ensures { result ≡ is_blank b }
 {
@@ -107,7 +107,7 @@ pub fn digits_len(bytes: &[u8]) -> usize
     bytes.iter().take_while(|b| b.is_ascii_digit()).count()
 }
 
-/// How many bytes stand before the end of the line.
+/// How many bytes are before the end of the line.
 fn line_len(bytes: &[u8]) -> usize
     ensures count { result ≡ prefix_len is_comment bytes.now }
     ensures bound { result ≤ length bytes.now }
@@ -115,7 +115,7 @@ fn line_len(bytes: &[u8]) -> usize
     bytes.iter().take_while(|b| **b != b'\n').count()
 }
 
-/// How many bytes of a sign stand at the front.
+/// How many bytes of a sign are at the front.
 pub fn sign_len(bytes: &[u8]) -> usize
     ensures count { result ≡ sign_len bytes.now }
     ensures bound { result ≤ length bytes.now }
@@ -126,15 +126,15 @@ pub fn sign_len(bytes: &[u8]) -> usize
     }
 }
 
-/// How many bytes of a point and digits stand at the front, where the digits may be missing or not.
+/// How many bytes of a point and digits are at the front, where the digits may be missing or not.
 pub fn fraction_len(may_miss: bool, bytes: &[u8]) -> usize
     ensures count { result ≡ fraction_len may_miss bytes.now }
     ensures bound { result ≤ length bytes.now }
 {
     match bytes {
         [] => 0,
-        [b, behind @ ..] => {
-            let digits = digits_len(behind);
+        [b, after @ ..] => {
+            let digits = digits_len(after);
             if *b == b'.' && (may_miss || digits != 0) {
                 digits + 1
             } else {
@@ -144,16 +144,16 @@ pub fn fraction_len(may_miss: bool, bytes: &[u8]) -> usize
     }
 }
 
-/// How many bytes of an exponent stand at the front.
+/// How many bytes of an exponent are at the front.
 fn exponent_len(bytes: &[u8]) -> usize
     ensures count { result ≡ exponent_len bytes.now }
     ensures bound { result ≤ length bytes.now }
 {
     match bytes {
         [] => 0,
-        [b, behind @ ..] => {
-            let sign = sign_len(behind);
-            let digits = digits_len(&behind[sign..]);
+        [b, after @ ..] => {
+            let sign = sign_len(after);
+            let digits = digits_len(&after[sign..]);
             if is_exponent(*b) && digits != 0 {
                 sign + digits + 1
             } else {
@@ -163,7 +163,7 @@ fn exponent_len(bytes: &[u8]) -> usize
     }
 }
 
-/// How many bytes of digits with a point stand at the front, and 0 where no digit is among them.
+/// How many bytes of digits with a point are at the front, and 0 where no digit is among them.
 fn mantissa_len(bytes: &[u8]) -> usize
     ensures count { result ≡ mantissa_len bytes.now }
     ensures bound { result ≤ length bytes.now }
@@ -172,7 +172,7 @@ fn mantissa_len(bytes: &[u8]) -> usize
     digits + fraction_len(digits != 0, &bytes[digits..])
 }
 
-/// How many bytes of a number without sign stand at the front.
+/// How many bytes of a number without sign are at the front.
 fn number_len(bytes: &[u8]) -> usize
     ensures count { result ≡ number_len bytes.now }
     ensures bound { result ≤ length bytes.now }
@@ -185,10 +185,10 @@ fn number_len(bytes: &[u8]) -> usize
     }
 }
 
-/// How many bytes stand before the first close, if there is one.
+/// How many bytes are before the first close, if there is one.
 fn inside_len(how: &Quoting, bytes: &[u8]) -> Option<usize>
     requires { 0 < length how.now.close.now }
-    ensures place { result ≡ inside_len (quoting how.now) bytes.now }
+    ensures place { result ≡ inside_len (quoting_view how.now) bytes.now }
     ensures bound { IfSome result (λ n. n + length how.now.close.now ≤ length bytes.now) }
 {
     let mut escaped = false;
@@ -207,24 +207,24 @@ fn inside_len(how: &Quoting, bytes: &[u8]) -> Option<usize>
     None
 }
 
-/// The piece of the first byte and so many after it.
-fn spelled(kind: Kind, all: &[u8], more: usize) -> Piece<'_>
+/// The token of the first byte and so many after it.
+fn token_of(kind: Kind, all: &[u8], more: usize) -> RawToken<'_>
     requires { more < length all.now }
-    ensures is { seen result ≡ spelled kind all.now more }
+    ensures is { token_view result ≡ token_of kind all.now more }
     ensures within { result.more ≡ more }
 {
-    Piece {
+    RawToken {
         kind,
         text: &all[..more + 1],
         more,
     }
 }
 
-fn no_piece<'a>() -> Piece<'a>
-    ensures is { seen result ≡ no_piece }
+fn no_token<'a>() -> RawToken<'a>
+    ensures is { token_view result ≡ no_token }
     ensures within { result.more ≡ 0 }
 {
-    Piece {
+    RawToken {
         kind: Kind::Bad,
         text: &[],
         more: 0,
@@ -242,22 +242,22 @@ fn word_kind(text: &[u8]) -> Kind
 }
 
 /// The word at these bytes, of which so many follow the first.
-fn word_piece(all: &[u8], more: usize) -> Piece<'_>
+fn word_token(all: &[u8], more: usize) -> RawToken<'_>
     requires { more < length all.now }
-    ensures is { seen result ≡ word_piece all.now more }
+    ensures is { token_view result ≡ word_token all.now more }
     ensures within { result.more ≡ more }
 {
-    spelled(word_kind(&all[..more + 1]), all, more)
+    token_of(word_kind(&all[..more + 1]), all, more)
 }
 
 /// The number of so many bytes at the front.
-fn number_piece(all: &[u8], len: usize) -> Piece<'_>
+fn number_token(all: &[u8], len: usize) -> RawToken<'_>
     requires some { 0 < len }
     requires within { len ≤ length all.now }
-    ensures is { seen result ≡ number_piece all.now len }
+    ensures is { token_view result ≡ number_token all.now len }
     ensures within { result.more < length all.now }
 {
-    Piece {
+    RawToken {
         kind: Kind::Number,
         text: &all[..len],
         more: len - 1,
@@ -273,24 +273,24 @@ fn begins_minus_inf(bytes: &[u8]) -> bool
 }
 
 /// What begins with a sign.
-fn signed_piece(all: &[u8]) -> Piece<'_>
+fn signed_token(all: &[u8]) -> RawToken<'_>
     requires { 0 < length all.now }
-    ensures is { seen result ≡ signed_piece all.now }
+    ensures is { token_view result ≡ signed_token all.now }
     ensures within { result.more < length all.now }
 {
     let len = number_len(&all[1..]);
     if len != 0 {
-        spelled(Kind::Number, all, len)
+        token_of(Kind::Number, all, len)
     } else if begins_minus_inf(all) {
-        spelled(Kind::Number, all, 3)
+        token_of(Kind::Number, all, 3)
     } else {
-        no_piece()
+        no_token()
     }
 }
 
-/// What stands behind its mark on one line, with its closing mark.
-fn short_piece<'a>(kind: Kind, mark: u8, escapes: bool, bytes: &'a [u8]) -> Piece<'a>
-    ensures is { seen result ≡ short_piece kind bytes.now (inside_len (on_line mark escapes) bytes.now) }
+/// What is after its mark on one line, with its closing mark.
+fn short_token<'a>(kind: Kind, mark: u8, escapes: bool, bytes: &'a [u8]) -> RawToken<'a>
+    ensures is { token_view result ≡ short_token kind bytes.now (inside_len (on_line mark escapes) bytes.now) }
     ensures within { result.more ≤ length bytes.now }
 {
     let close = [mark];
@@ -300,16 +300,16 @@ fn short_piece<'a>(kind: Kind, mark: u8, escapes: bool, bytes: &'a [u8]) -> Piec
         escapes,
     };
     match inside_len(&how, bytes) {
-        Some(n) => Piece {
+        Some(n) => RawToken {
             kind,
             text: &bytes[..n],
             more: n + 1,
         },
-        None => no_piece(),
+        None => no_token(),
     }
 }
 
-/// How many bytes stand before three closing marks.
+/// How many bytes are before three closing marks.
 fn long_len(mark: u8, escapes: bool, bytes: &[u8]) -> Option<usize>
     ensures place { result ≡ inside_len (between_three mark escapes) bytes.now }
     ensures bound { IfSome result (λ n. n + 3 ≤ length bytes.now) }
@@ -324,53 +324,53 @@ fn long_len(mark: u8, escapes: bool, bytes: &[u8]) -> Option<usize>
 }
 
 /// What begins with this mark, before these bytes.
-fn quoted<'a>(kind: Kind, mark: u8, escapes: bool, bytes: &'a [u8]) -> Piece<'a>
-    ensures is { seen result ≡ quoted kind mark escapes bytes.now }
+fn quoted_token<'a>(kind: Kind, mark: u8, escapes: bool, bytes: &'a [u8]) -> RawToken<'a>
+    ensures is { token_view result ≡ quoted_token kind mark escapes bytes.now }
     ensures within { result.more ≤ length bytes.now }
 {
     let opening = [mark, mark];
     if !bytes.starts_with(opening.as_slice()) {
-        return short_piece(kind, mark, escapes, bytes);
+        return short_token(kind, mark, escapes, bytes);
     }
     match long_len(mark, escapes, &bytes[2..]) {
-        Some(n) => Piece {
+        Some(n) => RawToken {
             kind,
             text: &bytes[2..n + 2],
             more: n + 5,
         },
-        None => short_piece(kind, mark, escapes, bytes),
+        None => short_token(kind, mark, escapes, bytes),
     }
 }
 
-/// The piece at the front.
-#[tactic(auto, unfolding(crate::specs::Lexing::piece_at))]
-pub fn piece_at(all: &[u8]) -> Piece<'_>
-    ensures is { seen result ≡ front all.now }
+/// The token at the front.
+#[tactic(auto, unfolding(crate::specs::Lexing::raw_token_at))]
+pub fn raw_token_at(all: &[u8]) -> RawToken<'_>
+    ensures is { token_view result ≡ front all.now }
     ensures within { 0 < length all.now → result.more < length all.now }
 {
     match all {
-        [] => Piece {
+        [] => RawToken {
             kind: Kind::End,
             text: all,
             more: 0,
         },
         [b, bytes @ ..] => {
             if is_letter(*b) {
-                return word_piece(all, word_len(bytes));
+                return word_token(all, word_len(bytes));
             }
             let len = number_len(all);
             if len != 0 {
-                number_piece(all, len)
+                number_token(all, len)
             } else if is_sign(*b) {
-                signed_piece(all)
+                signed_token(all)
             } else if *b == b'"' || *b == b'\'' {
-                quoted(Kind::Text, *b, true, bytes)
+                quoted_token(Kind::Text, *b, true, bytes)
             } else if *b == b'@' {
-                quoted(Kind::Asset, *b, false, bytes)
+                quoted_token(Kind::Asset, *b, false, bytes)
             } else if *b == b'<' {
-                short_piece(Kind::PathText, b'>', false, bytes)
+                short_token(Kind::PathText, b'>', false, bytes)
             } else {
-                spelled(mark_of(*b), all, 0)
+                token_of(mark_of(*b), all, 0)
             }
         }
     }
@@ -406,7 +406,7 @@ pub fn line_over(line: u32, bytes: &[u8]) -> u32
     at
 }
 
-/// The bytes behind the first and so many more, and their line.
+/// The bytes after the first and so many more, and their line.
 pub fn passed(bytes: &[u8], line: u32, more: usize) -> (&[u8], u32)
     requires { more < length bytes.now }
     ensures rest { result.0.now ≡ drop (more + 1) bytes.now }
@@ -426,11 +426,11 @@ pub fn without_blanks(bytes: &[u8], line: u32) -> (&[u8], u32)
     loop {
         match rest {
             [] => return (rest, at),
-            [b, behind @ ..] => {
+            [b, after @ ..] => {
                 if !is_blank(*b) {
                     return (rest, at);
                 }
-                let more = blank_more(*b, behind);
+                let more = blank_more(*b, after);
                 (rest, at) = passed(rest, at, more);
             }
         }

@@ -2,10 +2,10 @@
 #![tactic(auto)]
 
 mod decimal;
-mod exactly;
+mod exact;
 pub mod laws;
 mod lexer;
 
 pub use decimal::{Decimal, amount, is_fractional, parts_of};
-pub use exactly::{is_nought, is_one, is_turn};
-pub use lexer::{Kind, Piece, is_space, line_over, passed, piece_at, without_blanks};
+pub use exact::{is_one, is_turn, is_zero};
+pub use lexer::{Kind, RawToken, is_space, line_over, passed, raw_token_at, without_blanks};

@@ -7,12 +7,13 @@ use Rattle.std.proofs.lemmas.Bool.Decides.{Decides-eqb}
 use Rattle.std.proofs.lemmas.Slice.Eq.{starts_is}
 use Rattle.hd_tokens.specs.declared.properties.AttributeKind.{AttributeKind}
 use Rattle.hd_tokens.specs.declared.properties.Content.TheVariants.{Attribute}
-use Rattle.hd_tokens.specs.Locators.{op_at}
+use Rattle.hd_tokens.specs.Locators.{Locator, op_at}
 use Rattle.hd_tokens.specs.Properties.{UsedProperty, property, used_properties, begins_op, op_kind_of, op_property, named_property, property_of, locator_of}
-use Rattle.hd_value.specs.Locators.{is_prefix, is_same}
+use Rattle.hd_path.specs.Paths.{is_prefix}
+use Rattle.hd_path.specs.Names.{is_same}
 use Rattle.hd_schema.proofs.Lookups.{and_true, true_is_not, found_passes, found_in, mapped}
 
--- the row of a name stands in the table, or is that of an op
+-- the row of a name is in the table, or is that of an op
 pub record IsNamed (name : List ℕ) (r : UsedProperty) : Type 0 where
   pub plain : begins_op name ≡ false
   pub here : named_property name ≡ Some r
@@ -31,7 +32,7 @@ row_cases {P} name r e named op =
       | false ↦ λ plain is. named (record { plain = plain; here = is })
     ] refl e
 
-pub located_row : {P : Type 0} (name : List ℕ) (at : List (List ℕ)) → locator_of name ≡ Some at → ((r : UsedProperty) → property_of name ≡ Some r → r.locator ≡ at → P) → P
+pub located_row : {P : Type 0} (name : List ℕ) (at : Locator) → locator_of name ≡ Some at → ((r : UsedProperty) → property_of name ≡ Some r → r.locator ≡ at → P) → P
 unfolding locator_of
 located_row name at e k = mapped (λ (r : UsedProperty). r.locator) (property_of name) at e k
 
@@ -78,7 +79,7 @@ ops_apart n m bn bm p =
     op_name n bn ∙ ap (λ text. codes "xformOp:" ++ text) same ∙ sym (op_name m bm)
 
 -- where a used locator begins with another one, the two are of one name
-pub names_apart : (n m : List ℕ) (a b : List (List ℕ)) → locator_of n ≡ Some a → locator_of m ≡ Some b → is_prefix a b ≡ true → n ≡ m
+pub names_apart : (n m : List ℕ) (a b : Locator) → locator_of n ≡ Some a → locator_of m ≡ Some b → is_prefix a b ≡ true → n ≡ m
 names_apart n m a b en em p =
     located_row n a en (λ r row_n is_a. located_row m b em (λ s row_m is_b.
     let q : is_prefix r.locator s.locator ≡ true = ap (λ w. is_prefix w s.locator) is_a ∙ ap (is_prefix a) is_b ∙ p in
@@ -91,7 +92,7 @@ names_apart n m a b en em p =
     (λ os. ops_apart n m or.begins os.begins (ap (λ (x : UsedProperty). is_prefix (op_at (drop 8 n)) x.locator) (sym os.is) ∙ ap (λ (x : UsedProperty). is_prefix x.locator s.locator) (sym or.is) ∙ q)))))
 
 -- a locator has a token
-has_token : List (List ℕ) → Bool
+has_token : Locator → Bool
 has_token [] = false
 has_token (x ∷ at) = true
 
@@ -99,7 +100,7 @@ all_tokens : list_all (λ (r : UsedProperty). has_token r.locator) used_properti
 unfolding has_token
 all_tokens = refl
 
-pub some_token : (name : List ℕ) (at : List (List ℕ)) → locator_of name ≡ Some at → at ≢ []
+pub some_token : (name : List ℕ) (at : Locator) → locator_of name ≡ Some at → at ≢ []
 unfolding has_token
 some_token name at located none =
     located_row name at located (λ r row_r is.

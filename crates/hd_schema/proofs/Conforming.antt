@@ -1,10 +1,11 @@
--- Each value may stand where it stands.
+-- Each value may are where it is.
 use Rattle.std.proofs.Common.{◌≡◌, ℕ, ℤ, pos, negsuc, Bool, true, false, ◌&&◌, ◌||◌, ◌==◌, nat_eq, if◌then◌else◌, List, [], ◌∷◌, map, length, drop, Option, Some, refl, ap, sym, ◌∙◌}
 use Rattle.std.specs.Cmp.Lexicographic.{bytes_decides}
 use Rattle.std.specs.List.{find, list_all}
 use Rattle.std.specs.Option.{option_map, option_and_then}
 use Rattle.std.specs.Str.{bytes_eq}
 use Rattle.hd_num.specs.declared.vector.Vec3.{Vec3}
+use Rattle.hd_path.specs.Names.{Name}
 use Rattle.hd_tokens.specs.declared.properties.AttributeKind.{AttributeKind}
 use Rattle.hd_tokens.specs.declared.properties.Content.{Content}
 use Rattle.hd_tokens.specs.declared.properties.Content.TheVariants.{Attribute, Targets}
@@ -12,7 +13,7 @@ use Rattle.hd_layer.specs.declared.spec.PrimSpec.{PrimSpec}
 use Rattle.hd_layer.specs.declared.spec.Property.{Property}
 use Rattle.hd_layer.specs.declared.spec.RawValue.{RawValue}
 use Rattle.hd_layer.specs.declared.spec.RawValue.TheVariants as raw
-use Rattle.hd_tokens.specs.Locators.{points_at, counts_at, indices_at, display_color_at, color8_at, order_at, op_at, visibility_at, purpose_at, binding_at, positions_at, proto_indices_at, prototypes_at, material_color_at}
+use Rattle.hd_tokens.specs.Locators.{Locator, points_at, counts_at, indices_at, display_color_at, color8_at, order_at, op_at, visibility_at, purpose_at, binding_at, positions_at, proto_indices_at, prototypes_at, material_color_at}
 use Rattle.hd_tokens.specs.Names.{is_any}
 use Rattle.hd_tokens.specs.Properties.{UsedProperty, OpKind, used_properties, op_kinds, property_of, content_of, attribute_kind_in, attribute_kind_of, is_target_name, locator_of, visibilities, purposes}
 use Rattle.hd_layer.specs.WellFormed.{has_form, has_value, are_paths, are_words, are_op_entries, are_distinct, is_single, is_list, is_below_root, is_property, is_prim_spec}
@@ -25,31 +26,31 @@ use Rattle.hd_schema.specs.Authored.{property_value}
 use Rattle.hd_schema.specs.Colors.{light_of, byte_color, light_color}
 use Rattle.hd_schema.specs.OpValues as own
 use Rattle.hd_schema.specs.OpValues.{only, numbers, triples, triple, op_of_kind}
-use Rattle.hd_schema.specs.Places.{stands_at}
+use Rattle.hd_schema.specs.Places.{is_at}
 use Rattle.hd_schema.specs.Values.{words, paths, word, op, attribute_value, content_value, value_of}
 use Rattle.hd_schema.proofs.Apart.{IsNamed, IsOp, row_cases, located_row, row_name}
 use Rattle.hd_schema.proofs.OpNames.{order_conforms, op_conforms, kind_among}
 use Rattle.hd_schema.proofs.Lookups.{Each, and_true, some_is_not, found_passes, found_in, found_among, mapped, chained}
 use Rattle.hd_schema.proofs.Putting.{Holds, standing}
 
--- all that is made this way may stand there
-shown : {X : Type 0} (at : List (List ℕ)) (f : X → Value) (o : Option X) (x : Value) → option_map f o ≡ Some x → ((y : X) → o ≡ Some y → is_authored at (f y) ≡ true) → is_authored at x ≡ true
+-- all that is made this way may are there
+shown : {X : Type 0} (at : Locator) (f : X → Value) (o : Option X) (x : Value) → option_map f o ≡ Some x → ((y : X) → o ≡ Some y → is_authored at (f y) ≡ true) → is_authored at x ≡ true
 shown at f o x made fits = mapped f o x made (λ y there is. ap (is_authored at) (sym is) ∙ fits y there)
 
-words_pass : (test : List (List ℕ) → Bool) (v : RawValue) (ws : List (List ℕ)) → words v ≡ Some ws → are_words test v ≡ true → test ws ≡ true
+words_pass : (test : List Name → Bool) (v : RawValue) (ws : List Name) → words v ≡ Some ws → are_words test v ≡ true → test ws ≡ true
 words_pass test (raw.Words us) ws e form = let same : us ≡ ws = cc in ap test (sym same) ∙ form
 words_pass test (raw.Numbers ns) ws e form = some_is_not ws (sym e)
 words_pass test (raw.Triples ts) ws e form = some_is_not ws (sym e)
 words_pass test (raw.Paths ps) ws e form = some_is_not ws (sym e)
 words_pass test (raw.Matrix m) ws e form = some_is_not ws (sym e)
 
-only_passes : (test : List ℕ → Bool) (ws : List (List ℕ)) (w : List ℕ) → only ws ≡ Some w → list_all test ws ≡ true → test w ≡ true
+only_passes : (test : List ℕ → Bool) (ws : List Name) (w : List ℕ) → only ws ≡ Some w → list_all test ws ≡ true → test w ≡ true
 only_passes test [] w e all = some_is_not w (sym e)
 only_passes test (u ∷ []) w e all = let same : u ≡ w = cc in ap test (sym same) ∙ (and_true (test u) true all).0
 only_passes test (u ∷ t ∷ more) w e all = some_is_not w (sym e)
 
 -- the only word of a value that is to be one of some words
-word_passes : (choice : List (List ℕ)) (v : RawValue) (w : List ℕ) → word v ≡ Some w → are_words (is_single (is_any choice)) v ≡ true → is_any choice w ≡ true
+word_passes : (choice : List Name) (v : RawValue) (w : List ℕ) → word v ≡ Some w → are_words (is_single (is_any choice)) v ≡ true → is_any choice w ≡ true
 word_passes choice v w e form =
     chained only (words v) w e (λ ws there one.
     let all = (and_true (length ws == 1) (list_all (is_any choice) ws) (words_pass (is_single (is_any choice)) v ws there form)).1 in
@@ -68,7 +69,7 @@ abbrev pub content_form : Content → RawValue → Bool
 content_form (Attribute kind) v = has_form kind v
 content_form Targets v = are_paths (is_list is_below_root) v
 
--- a value of the row's form may stand at the row's locator
+-- a value of the row's form may are at the row's locator
 RowConforms : UsedProperty → Type 0
 RowConforms r = (v : RawValue) (x : Value) → content_form r.content v ≡ true → content_value r.content r.name v ≡ Some x → is_authored r.locator x ≡ true
 
@@ -131,7 +132,7 @@ pub form_of : (c : Content) (name : List ℕ) (v : RawValue) → has_value (attr
 form_of (Attribute kind) name v e = e
 form_of Targets name v e = (and_true (is_target_name name) (are_paths (is_list is_below_root) v) e).1
 
-property_conforms : (p : Property) (at : List (List ℕ)) (x : Value) → is_property p ≡ true → locator_of p.name ≡ Some at → property_value p ≡ Some x → is_authored at x ≡ true
+property_conforms : (p : Property) (at : Locator) (x : Value) → is_property p ≡ true → locator_of p.name ≡ Some at → property_value p ≡ Some x → is_authored at x ≡ true
 unfolding content_of attribute_kind_of value_of RowConforms
 property_conforms p at x formed located made =
     located_row p.name at located (λ r row_r is_at.
@@ -150,9 +151,9 @@ property_conforms p at x formed located made =
 
 pub authored_conforms : (m : Map) (prim : PrimSpec) → is_prim_spec prim ≡ true → Holds m prim.properties → IsAuthored m
 authored_conforms m prim formed holds at x e =
-    chained property_value (find (λ (p : Property). stands_at p.name at) prim.properties) x (sym (holds at) ∙ e) (λ p found made.
+    chained property_value (find (λ (p : Property). is_at p.name at) prim.properties) x (sym (holds at) ∙ e) (λ p found made.
     let all = (and_true _ (list_all is_property prim.properties) (and_true _ (are_distinct (map (λ (q : Property). q.name) prim.properties)) formed).0).1 in
     property_conforms p at x
-    (found_in is_property (λ (q : Property). stands_at q.name at) prim.properties p all found)
-    (standing p.name at (found_passes (λ (q : Property). stands_at q.name at) prim.properties p found))
+    (found_in is_property (λ (q : Property). is_at q.name at) prim.properties p all found)
+    (standing p.name at (found_passes (λ (q : Property). is_at q.name at) prim.properties p found))
     made)

@@ -6,6 +6,7 @@ use Rattle.std.specs.Str.{bytes_eq}
 use Rattle.hd_num.specs.declared.axis.Axis.TheVariants.{X, Y, Z}
 use Rattle.hd_num.specs.declared.op.Op.{Op}
 use Rattle.hd_num.specs.declared.op.Op.TheVariants.{Translate, Scale, Transform}
+use Rattle.hd_path.specs.Names.{Name}
 use Rattle.hd_tokens.specs.declared.properties.AttributeKind.{AttributeKind}
 use Rattle.hd_layer.specs.declared.spec.RawValue.{RawValue}
 use Rattle.hd_tokens.specs.Names.{is_joined}
@@ -18,7 +19,7 @@ use Rattle.hd_schema.specs.OpValues.{number, triple, matrix, turn, turns, OpValu
 use Rattle.hd_schema.proofs.Lookups.{Each, and_true, found_passes, found_among, mapped, chained}
 
 -- entries of an order may be in one
-pub order_conforms : (ws : List (List ℕ)) → are_op_entries ws ≡ true → is_order (value.Tokens ws) ≡ true
+pub order_conforms : (ws : List Name) → are_op_entries ws ≡ true → is_order (value.Tokens ws) ≡ true
 order_conforms [] e = refl
 order_conforms (w ∷ ws) e =
     let both = and_true (nat_le (length (w ∷ ws)) 65536 && is_op_entry true w) (list_all (is_op_entry false) ws) e in

@@ -1,4 +1,4 @@
--- Where the values of properties stand.
+-- Where the values of properties are.
 use Rattle.std.proofs.Common.{◌≡◌, ℕ, true, false, cond, List, [], ◌∷◌, ◌++◌, Option, Some, None, drop, codes, refl, ap, sym, ◌∙◌}
 use Rattle.std.specs.Option.{option_map, is_some}
 use Rattle.std.specs.Str.Pattern.{FindsTextPrefix}
@@ -7,22 +7,22 @@ use Rattle.std.proofs.lemmas.Slice.Eq.{starts_is}
 use Rattle.std.proofs.lemmas.Str.Pattern.{starts_text}
 use Rattle.hd_tokens.specs.declared.properties.AttributeKind.{AttributeKind}
 use Rattle.hd_tokens.specs.declared.properties.Content.TheVariants.{Attribute}
-use Rattle.hd_tokens.specs.Locators.{op_at}
+use Rattle.hd_tokens.specs.Locators.{Locator, op_at}
 use Rattle.hd_tokens.specs.Properties.{property, begins_op, op_kind_of, op_property, named_property, property_of, content_of, locator_of}
-use Rattle.hd_value.specs.LocatorSets.{inserted}
+use Rattle.hd_value.specs.LocatorSets.{with_locator}
 
-pub inserted_first : (at : List (List ℕ)) → inserted [] at ≡ at ∷ []
+pub inserted_first : (at : Locator) → with_locator [] at ≡ at ∷ []
 inserted_first at = refl
 
--- a name behind `xformOp:` begins as that of an op
-pub begins_behind : (name : List ℕ) → name ≡ codes "xformOp:" ++ drop 8 name → begins_op name ≡ true
-begins_behind name is = (starts_is Decides-eqb name (codes "xformOp:") (begins_op name) refl).1 (drop 8 name) is
+-- a name after `xformOp:` begins as that of an op
+pub begins_after : (name : List ℕ) → name ≡ codes "xformOp:" ++ drop 8 name → begins_op name ≡ true
+begins_after name is = (starts_is Decides-eqb name (codes "xformOp:") (begins_op name) refl).1 (drop 8 name) is
 
 begins_other : (name : List ℕ) → FindsTextPrefix (codes "xformOp:") name None → begins_op name ≡ false
 begins_other name none = sym (starts_text false (codes "xformOp:") name none)
 
--- where an op's value stands
-op_place : List ℕ → List (List ℕ)
+-- where an op's value is
+op_place : List ℕ → Locator
 op_place name = op_at (drop 8 name)
 
 row_at : (name : List ℕ) → begins_op name ≡ true → property_of name ≡ op_property name
@@ -39,7 +39,7 @@ op_located name is used =
     ] (sym (ap (λ o. is_some (option_map (λ r. r.content) o)) same) ∙ used)
   where
     same : property_of name ≡ op_property name
-    same = row_at name (begins_behind name is)
+    same = row_at name (begins_after name is)
 
     false_is_not : false ≡ true → ⊥
     false_is_not e = cc
@@ -47,7 +47,7 @@ op_located name is used =
 pub op_unused : (name : List ℕ) → is_some (content_of name) ≡ false → locator_of name ≡ None
 unfolding content_of locator_of
 op_unused name unused =
-    elim (property_of name) as (λ o. is_some (option_map (λ r. r.content) o) ≡ false → ◌≡◌ {A = Option (List (List ℕ))} (option_map (λ r. r.locator) o) None) [
+    elim (property_of name) as (λ o. is_some (option_map (λ r. r.content) o) ≡ false → ◌≡◌ {A = Option Locator} (option_map (λ r. r.locator) o) None) [
       | Some r ↦ λ no. absurd (true_is_not no)
       | None ↦ λ _. refl
     ] unused

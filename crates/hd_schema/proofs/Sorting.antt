@@ -9,11 +9,12 @@ use Rattle.std.proofs.lemmas.List.{take_all, take_more, map-append}
 use Rattle.std.proofs.lemmas.List.Sums.{sum_by-cons}
 use Rattle.std.proofs.lemmas.List.Sorted.{Contains-permutation, sum_by-IsPermutation, list_any-IsPermutation}
 use Rattle.hd_layer.specs.declared.spec.Property.{Property}
+use Rattle.hd_tokens.specs.Locators.{Locator}
 use Rattle.hd_tokens.specs.Properties.{locator_of}
 use Rattle.hd_layer.specs.declared.spec.PrimSpec.{PrimSpec}
 use Rattle.hd_layer.specs.WellFormed.{are_distinct, is_prim_spec}
 use Rattle.hd_value.specs.Maps.{Map}
-use Rattle.hd_schema.specs.Places.{stands_at}
+use Rattle.hd_schema.specs.Places.{is_at}
 use Rattle.hd_schema.specs.Authored.{property_value, authored_at}
 use Rattle.hd_schema.proofs.Apart.{names_apart}
 use Rattle.hd_schema.proofs.Lookups.{and_true, true_is_not, some_is_not, found_passes, is_some-find}
@@ -36,7 +37,7 @@ counts_one false e = true_is_not (sym e)
 abbrev pub has_name : List ℕ → Property → Bool
 has_name name p = bytes_eq name p.name
 
--- no name stands twice
+-- no name is twice
 pub record IsOnce (ps : List Property) : Type 0 where
   pub once : (name : List ℕ) → count (has_name name) ps ≤ 1
 
@@ -75,7 +76,7 @@ counted_last : (front : List Property) (p : Property) (rest : List Property) →
 counted_last [] p rest = let one : cond {A = ℕ} (has_name p.name p) 1 0 ≡ 1 = counts_one (bytes_eq p.name p.name) ((bytes_decides p.name p.name).1 refl) in omega arith
 counted_last (x ∷ front) p rest = omega (arith, counted_last front p rest)
 
--- a name that stands once is new behind those before it
+-- a name that is once is new after those before it
 pub once_new : (front : List Property) (p : Property) (rest : List Property) → IsOnce (front ++ p ∷ rest) → IsNew p.name front
 once_new [] p rest h = refl
 once_new (x ∷ front) p rest h =
@@ -123,12 +124,12 @@ count_same : {X : Type 0} (p q : X → Bool) → ((x : X) → p x ≡ q x) → (
 count_same p q same [] = refl
 count_same p q same (x ∷ xs) = ap (λ b. cond b 1 0 + count p xs) (same x) ∙ ap (λ n. cond (q x) 1 0 + n) (count_same p q same xs)
 
--- at a place where one property stands, those that stand there have its name
-named_there : (q : List (List ℕ)) (p : Property) → locator_of p.name ≡ Some q → (x : Property) → stands_at x.name q ≡ has_name p.name x
+-- at a place where one property is, those that are there have its name
+named_there : (q : Locator) (p : Property) → locator_of p.name ≡ Some q → (x : Property) → is_at x.name q ≡ has_name p.name x
 named_there q p located x =
-    elim (bytes_eq p.name x.name) as (λ b. bytes_eq p.name x.name ≡ b → stands_at x.name q ≡ b) [
+    elim (bytes_eq p.name x.name) as (λ b. bytes_eq p.name x.name ≡ b → is_at x.name q ≡ b) [
       | true ↦ λ same. located_stands x.name q (ap locator_of (sym ((bytes_decides p.name x.name).0 same)) ∙ located)
-      | false ↦ λ other. elim (stands_at x.name q) as (λ b. stands_at x.name q ≡ b → b ≡ false) [
+      | false ↦ λ other. elim (is_at x.name q) as (λ b. is_at x.name q ≡ b → b ≡ false) [
         | true ↦ λ there. sym ((bytes_decides p.name x.name).1 (names_apart p.name x.name q q located (standing x.name q there) (is_prefix_self q))) ∙ other
         | false ↦ λ _. refl
       ] refl
@@ -138,28 +139,28 @@ none_found : {X : Type 0} (o : Option X) → is_some o ≡ false → o ≡ None
 none_found None e = refl
 none_found (Some x) e = true_is_not e
 
--- a property that stands once is the one that is found at its place
-pub found_own : (ps : List Property) (q : List (List ℕ)) (p : Property) → IsOnce ps → Contains ps p → locator_of p.name ≡ Some q → find (λ (x : Property). stands_at x.name q) ps ≡ Some p
+-- a property that is once is the one that is found at its place
+pub found_own : (ps : List Property) (q : Locator) (p : Property) → IsOnce ps → Contains ps p → locator_of p.name ≡ Some q → find (λ (x : Property). is_at x.name q) ps ≡ Some p
 found_own ps q p h there located =
     let once : count (has_name p.name) ps ≤ 1 = h.once p.name in
-    let same = count_same (λ (x : Property). stands_at x.name q) (has_name p.name) (named_there q p located) ps in
-    found_only (λ (x : Property). stands_at x.name q) ps p (omega (arith, same)) (located_stands p.name q located) there
+    let same = count_same (λ (x : Property). is_at x.name q) (has_name p.name) (named_there q p located) ps in
+    found_only (λ (x : Property). is_at x.name q) ps p (omega (arith, same)) (located_stands p.name q located) there
 
-found_permuted : (ps qs : List Property) (q : List (List ℕ)) → IsPermutation ps qs → IsOnce ps → find (λ (x : Property). stands_at x.name q) qs ≡ find (λ (x : Property). stands_at x.name q) ps
+found_permuted : (ps qs : List Property) (q : Locator) → IsPermutation ps qs → IsOnce ps → find (λ (x : Property). is_at x.name q) qs ≡ find (λ (x : Property). is_at x.name q) ps
 found_permuted ps qs q moved h =
-    elim (find (λ (x : Property). stands_at x.name q) ps) as (λ o. find (λ (x : Property). stands_at x.name q) ps ≡ o → find (λ (x : Property). stands_at x.name q) qs ≡ o) [
+    elim (find (λ (x : Property). is_at x.name q) ps) as (λ o. find (λ (x : Property). is_at x.name q) ps ≡ o → find (λ (x : Property). is_at x.name q) qs ≡ o) [
       | Some p ↦ λ found.
-          let located = standing p.name q (found_passes (λ (x : Property). stands_at x.name q) ps p found) in
-          found_own qs q p (permuted_once ps qs moved h) (Contains-permutation ps qs p moved (found_there (λ (x : Property). stands_at x.name q) ps p found)) located
+          let located = standing p.name q (found_passes (λ (x : Property). is_at x.name q) ps p found) in
+          found_own qs q p (permuted_once ps qs moved h) (Contains-permutation ps qs p moved (found_there (λ (x : Property). is_at x.name q) ps p found)) located
       | None ↦ λ none.
-          none_found (find (λ (x : Property). stands_at x.name q) qs)
-          (is_some-find (λ (x : Property). stands_at x.name q) qs ∙ sym (list_any-IsPermutation (λ (x : Property). stands_at x.name q) ps qs moved) ∙ sym (is_some-find (λ (x : Property). stands_at x.name q) ps) ∙ ap is_some none)
+          none_found (find (λ (x : Property). is_at x.name q) qs)
+          (is_some-find (λ (x : Property). is_at x.name q) qs ∙ sym (list_any-IsPermutation (λ (x : Property). is_at x.name q) ps qs moved) ∙ sym (is_some-find (λ (x : Property). is_at x.name q) ps) ∙ ap is_some none)
     ] refl
 
-pub authored_permuted : (ps qs : List Property) (q : List (List ℕ)) → IsPermutation ps qs → IsOnce ps → authored_at qs q ≡ authored_at ps q
+pub authored_permuted : (ps qs : List Property) (q : Locator) → IsPermutation ps qs → IsOnce ps → authored_at qs q ≡ authored_at ps q
 authored_permuted ps qs q moved h = ap (option_and_then property_value) (found_permuted ps qs q moved h)
 
--- the next of a list, and those before and behind it
+-- the next of a list, and those before and after it
 split_next : (rs : List (Bor Property)) (i : ℕ) (r : Bor Property) → i < length rs → r ≡ get_or rs i r → map (λ (x : Bor Property). x.now) (take i rs) ++ r.now ∷ map (λ (x : Bor Property). x.now) (drop (suc i) rs) ≡ map (λ (x : Bor Property). x.now) rs
 split_next rs i r below is =
     ap (λ (x : Bor Property). map (λ (y : Bor Property). y.now) (take i rs) ++ x.now ∷ map (λ (y : Bor Property). y.now) (drop (suc i) rs)) is

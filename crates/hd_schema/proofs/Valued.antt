@@ -11,6 +11,7 @@ use Rattle.hd_num.specs.declared.axis.Axis.TheVariants.{X, Y, Z}
 use Rattle.hd_num.specs.declared.op.Op.TheVariants.{Translate, Scale, Transform}
 use Rattle.hd_num.specs.declared.vector.Vec3.{Vec3}
 use Rattle.hd_num.specs.Matrices.{Rows}
+use Rattle.hd_path.specs.Names.{Name}
 use Rattle.hd_tokens.specs.declared.properties.AttributeKind.{AttributeKind}
 use Rattle.hd_tokens.specs.declared.properties.Content.{Content}
 use Rattle.hd_layer.specs.declared.spec.PrimSpec.{PrimSpec}
@@ -52,7 +53,7 @@ numbers_there test (Words ws) e = true_is_not (sym e)
 numbers_there test (Paths ps) e = true_is_not (sym e)
 numbers_there test (Matrix m) e = true_is_not (sym e)
 
-words_there : (test : List (List ℕ) → Bool) (v : RawValue) → are_words test v ≡ true → IsSome (words v)
+words_there : (test : List Name → Bool) (v : RawValue) → are_words test v ≡ true → IsSome (words v)
 words_there test (Words ws) e = refl
 words_there test (Numbers ns) e = true_is_not (sym e)
 words_there test (Triples vs) e = true_is_not (sym e)

@@ -3,3 +3,4 @@ pub mod Colors
 pub mod OpValues
 pub mod Values
 pub mod Authored
+pub mod inner

@@ -11,6 +11,7 @@ use Rattle.hd_num.specs.declared.vector.Vec3.{Vec3}
 use Rattle.hd_num.specs.Matrices.{Rows}
 use Rattle.hd_layer.specs.declared.spec.RawValue.{RawValue}
 use Rattle.hd_layer.specs.declared.spec.RawValue.TheVariants as raw
+use Rattle.hd_path.specs.Names.{Name}
 use Rattle.hd_tokens.specs.Properties.{first_part}
 
 -- the item of a list of one
@@ -62,10 +63,10 @@ turns v = RotateXyz (quarters v.x) (quarters v.y) (quarters v.z)
 
 -- a kind of ops, and the op that a value gives there
 pub record OpValue : Type 0 where
-  pub kind : List ℕ
+  pub kind : Name
   pub op : RawValue → Option Op
 
-abbrev pub op_value : List ℕ → (RawValue → Option Op) → OpValue
+abbrev pub op_value : Name → (RawValue → Option Op) → OpValue
 op_value kind op = record { kind = kind; op = op }
 
 -- the kinds of ops, and what the value of each is
@@ -81,9 +82,9 @@ op_values =
     ∷ []
 
 -- the op of a kind that a value gives
-abbrev pub op_of_kind : List ℕ → RawValue → Option Op
+abbrev pub op_of_kind : Name → RawValue → Option Op
 op_of_kind kind value = option_and_then (λ k. k.op value) (find (λ k. bytes_eq kind k.kind) op_values)
 
--- the kind of an op stands in its name behind `xformOp:`, up to the next colon
-abbrev pub kind_of : List ℕ → List ℕ
+-- the kind of an op is in its name after `xformOp:`, up to the next colon
+abbrev pub kind_of : Name → Name
 kind_of name = first_part (drop 8 name)

@@ -1,14 +1,16 @@
 //! The values that the properties of a prim author.
 
-ghost use Rattle.std.specs.Prelude.{◌≡◌, ℕ, List, All, map, IsTrue, IsPermutation, IfOk, OnOk};
+ghost use Rattle.std.specs.Prelude.{◌≡◌, All, map, IsTrue, IsPermutation, IfOk, OnOk};
 ghost use Rattle.std.specs.Cmp.Lexicographic.{slice_cmp};
 ghost use Rattle.std.specs.FinMap.{get};
 ghost use Rattle.std.specs.List.Sorted.{IsSortedByKey};
 ghost use Rattle.std.specs.Ordering.{nat_cmp};
+ghost use Rattle.hd_tokens.specs.Locators.{Locator};
 ghost use Rattle.hd_tokens.specs.Properties.{locator_of};
 ghost use Rattle.hd_layer.specs.WellFormed.{is_prim_spec};
 ghost use Rattle.hd_value.specs.Schema.{IsAuthored};
-ghost use Rattle.hd_schema.specs.Authored.{authored_at, with_property, HasValueOf, IsFreeAt};
+ghost use Rattle.hd_schema.specs.Authored.{authored_at, with_property, HasValueOf};
+ghost use Rattle.hd_schema.specs.inner.FreePlaces.{IsFreeAt};
 
 use crate::locating::locator_of;
 use crate::values::value_of;
@@ -23,7 +25,7 @@ use std::alloc::{AllocError, Global};
 /// in quarters from 0 to 3. The call fails only where it is out of memory.
 pub fn to_container(alloc: Global, prim: &PrimSpec) -> Result<Container, AllocError>
     requires well_formed { IsTrue (is_prim_spec prim.now) }
-    ensures values { IfOk result (λ values. (at : List (List ℕ)) → get values at ≡ authored_at prim.now.properties at) }
+    ensures values { IfOk result (λ values. (at : Locator) → get values at ≡ authored_at prim.now.properties at) }
     ensures each { IfOk result (λ values. All (HasValueOf values) prim.now.properties) }
     ensures conforms { IfOk result (λ values. IsAuthored values) }
 {

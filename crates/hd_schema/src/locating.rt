@@ -19,10 +19,11 @@ use std::alloc::{AllocError, Global};
 pub fn locators_of(alloc: Global, name: &Token) -> Result<LocatorSet, AllocError>
     ensures { IfOk result (λ set. set ≡ locators_of name.now) }
 {
+    let Some(at) = locator_of(alloc, name.text())? else {
+        return Ok(LocatorSet::new(alloc));
+    };
     let mut set = LocatorSet::new(alloc);
-    if let Some(at) = locator_of(alloc, name.text())? {
-        set.insert(&at)?;
-    }
+    set.insert(&at)?;
     Ok(set)
 }
 

@@ -1,7 +1,8 @@
 //! The transform ops that properties give.
 
 ghost use Rattle.std.specs.Prelude.{◌≡◌, drop};
-ghost use Rattle.hd_schema.specs.OpValues.{number, triple, matrix, quarters, turns, kind_of, op_of_kind};
+ghost use Rattle.std.specs.Option.{option_map};
+ghost use Rattle.hd_schema.specs.OpValues.{number, triple, matrix, quarters, turn, turns, kind_of, op_of_kind};
 
 use hd_layer::RawValue;
 use hd_num::{Axis, Matrix, Op, Vec3};
@@ -34,22 +35,52 @@ fn op_of_kind(kind: &[u8], value: &RawValue) -> Option<Op>
     ensures { result ≡ op_of_kind kind.now value.now }
 {
     if kind == b"translate".as_slice() {
-        Some(Op::Translate(triple(value)?))
+        translation(value)
     } else if kind == b"scale".as_slice() {
-        Some(Op::Scale(triple(value)?))
+        scaling(value)
     } else if kind == b"rotateX".as_slice() {
-        Some(Op::Rotate(Axis::X, quarters(number(value)?)))
+        turn(Axis::X, value)
     } else if kind == b"rotateY".as_slice() {
-        Some(Op::Rotate(Axis::Y, quarters(number(value)?)))
+        turn(Axis::Y, value)
     } else if kind == b"rotateZ".as_slice() {
-        Some(Op::Rotate(Axis::Z, quarters(number(value)?)))
+        turn(Axis::Z, value)
     } else if kind == b"rotateXYZ".as_slice() {
-        Some(turns(triple(value)?))
+        turns_of(value)
     } else if kind == b"transform".as_slice() {
-        Some(Op::Transform(matrix(value)?))
+        transform(value)
     } else {
         None
     }
+}
+
+fn translation(value: &RawValue) -> Option<Op>
+    ensures { result ≡ option_map Op.Translate (triple value.now) }
+{
+    Some(Op::Translate(triple(value)?))
+}
+
+fn scaling(value: &RawValue) -> Option<Op>
+    ensures { result ≡ option_map Op.Scale (triple value.now) }
+{
+    Some(Op::Scale(triple(value)?))
+}
+
+fn turn(axis: Axis, value: &RawValue) -> Option<Op>
+    ensures { result ≡ option_map (turn axis) (number value.now) }
+{
+    Some(Op::Rotate(axis, quarters(number(value)?)))
+}
+
+fn turns_of(value: &RawValue) -> Option<Op>
+    ensures { result ≡ option_map turns (triple value.now) }
+{
+    Some(turns(triple(value)?))
+}
+
+fn transform(value: &RawValue) -> Option<Op>
+    ensures { result ≡ option_map Op.Transform (matrix value.now) }
+{
+    Some(Op::Transform(matrix(value)?))
 }
 
 /// So many degrees in quarter turns, from 0 to 3.

@@ -3,22 +3,22 @@ use Rattle.std.proofs.Common.{◌≢◌, ℕ, nat_lt, ◌==◌, List, [], ◌∷
 use Rattle.std.specs.Str.{bytes_eq, is_utf8}
 use Rattle.hd_path.specs.declared.fault.PathFault.{PathFault}
 use Rattle.hd_path.specs.declared.fault.PathFault.TheVariants as path
-use Rattle.hd_path.specs.Parsing.{name_at, parsed}
+use Rattle.hd_path.specs.Parsing.{name_at, path_of_text}
 use Rattle.hd_layer.specs.declared.fault.LayerWhy.{LayerWhy}
 use Rattle.hd_layer.specs.declared.fault.LayerWhy.TheVariants as why
 use Rattle.hd_layer.specs.declared.limits.Which.TheVariants.{Frame}
 use Rattle.hd_layer.specs.declared.spec.Property.{Property}
-use Rattle.hd_usda.specs.Cursors.{Fault}
+use Rattle.hd_usda.specs.reading.Cursor.{Fault}
 use Rattle.hd_layer.specs.Limits.{limit_of}
 use Rattle.hd_tokens.specs.Names.{is_joined}
 use Rattle.hd_path.specs.Paths.{Path}
-use Rattle.hd_usda.specs.Statements.{reads_property}
+use Rattle.hd_usda.specs.Statement.{reads_property}
 use Rattle.hd_script.specs.declared.command.Command.{Command}
 use Rattle.hd_script.specs.declared.fault.LineFault.{LineFault}
 use Rattle.hd_script.specs.declared.fault.LineFault.TheVariants.{Syntax, LeftOut, Fraction, Limit, NoMemory}
 use Rattle.hd_script.specs.Faults.{◌>>=◌}
 use Rattle.hd_script.specs.Lines.{Word, words, without_return, is_nothing}
-use Rattle.hd_script.specs.Fields.{is_number, number, within_frame, size, is_file_name, file_name, path_fault, named, identifier, prim_type, below_root, prim_path, property_name, property_fault, on_line, property}
+use Rattle.hd_script.specs.Fields.{is_number, number, within_frame, size, is_file_name, file_name, path_fault, checked_name, identifier, prim_type, below_root, prim_path, property_name, property_fault, on_line, property}
 use Rattle.hd_script.specs.Commands.{field, ends, alone, layer, define, set, clear, remove, rename, dump, last_path, start, tiles, named_command, command_in, valid_text, reads_text, reads_line}
 
 -- a fault of the text
@@ -63,7 +63,7 @@ path_fault_told path.TooDeep = tt
 path_fault_told path.NameTooLong = tt
 path_fault_told path.NoMemory = tt
 
-named_told : (r : Result (List ℕ) PathFault) → IsTold (named r)
+named_told : (r : Result (List ℕ) PathFault) → IsTold (checked_name r)
 named_told (Ok name) = tt
 named_told (Err fault) = path_fault_told fault
 
@@ -78,7 +78,7 @@ below_root_told (Err fault) = path_fault_told fault
 
 prim_path_told : (text : List ℕ) → IsTold (prim_path text)
 unfolding prim_path
-prim_path_told text = below_root_told (parsed text)
+prim_path_told text = below_root_told (path_of_text text)
 
 property_name_told : (text : List ℕ) → IsTold (property_name text)
 unfolding property_name
@@ -130,7 +130,7 @@ define_told ws =
 set_told : (ws : List Word) → IsTold (set ws)
 unfolding set
 set_told [] = tt
-set_told (w ∷ ws) = chain (prim_path w.text) _ (prim_path_told w.text) (λ path. chain (property w.behind) _ (property_told w.behind) (λ found. tt))
+set_told (w ∷ ws) = chain (prim_path w.text) _ (prim_path_told w.text) (λ path. chain (property w.after) _ (property_told w.after) (λ found. tt))
 
 clear_told : (ws : List Word) → IsTold (clear ws)
 unfolding clear
@@ -208,6 +208,6 @@ reads_line_told : (line : List ℕ) → IsTold (reads_line line)
 unfolding reads_line
 reads_line_told line = reads_text_told (without_return line)
 
--- want of memory is no fault of a line
+-- lack of memory is no fault of a line
 pub no_want : (line : List ℕ) → reads_line line ≢ Err NoMemory
 no_want line e = subst IsTold e (reads_line_told line)

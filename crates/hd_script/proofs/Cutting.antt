@@ -48,7 +48,7 @@ solids_pass (b ∷ bs) = by_gap (solids_pass bs) (is_gap b) refl
     by_gap rest true e = ap (words_from false) (drop_no is_solid b bs (ap not e)) ∙ gap_passes false b bs e ∙ sym (gap_passes true b bs e)
     by_gap rest false e = ap (words_from false) (drop_yes is_solid b bs (ap not e)) ∙ rest ∙ sym (word_goes_on b bs e)
 
--- behind the gaps stands none
+-- after the gaps is none
 no_gap : (text : List ℕ) → prefix_len is_gap (without_gaps text) ≡ 0
 no_gap [] = refl
 no_gap (b ∷ bs) = by_gap (no_gap bs) (is_gap b) refl
@@ -58,16 +58,16 @@ no_gap (b ∷ bs) = by_gap (no_gap bs) (is_gap b) refl
     by_gap rest false e = let none : prefix_len is_gap (b ∷ bs) ≡ 0 = rw e refl in ap (prefix_len is_gap) (drop_no is_gap b bs e) ∙ none
 
 -- a text without gaps before it begins with a word
-begins_with_word : (text : List ℕ) → prefix_len is_gap text ≡ 0 → 0 < length text → words_from false text ≡ word_at text ∷ words_from false (word_at text).behind
+begins_with_word : (text : List ℕ) → prefix_len is_gap text ≡ 0 → 0 < length text → words_from false text ≡ word_at text ∷ words_from false (word_at text).after
 begins_with_word [] none some = absurd (omega arith)
 begins_with_word (b ∷ bs) none some = by_gap (is_gap b) refl
   where
-    by_gap : (t : Bool) → is_gap b ≡ t → words_from false (b ∷ bs) ≡ word_at (b ∷ bs) ∷ words_from false (word_at (b ∷ bs)).behind
+    by_gap : (t : Bool) → is_gap b ≡ t → words_from false (b ∷ bs) ≡ word_at (b ∷ bs) ∷ words_from false (word_at (b ∷ bs)).after
     by_gap true e = let more : 1 + prefix_len is_gap bs ≡ 0 = rw e at none in absurd (omega arith)
     by_gap false e = word_begins b bs e ∙ ap (λ ws. word_at (b ∷ bs) ∷ ws) (sym (word_goes_on b bs e) ∙ sym (solids_pass (b ∷ bs)))
 
 -- the next word of a line
-pub next_word : (line : List ℕ) → 0 < length (without_gaps line) → words line ≡ word_at (without_gaps line) ∷ words (word_at (without_gaps line)).behind
+pub next_word : (line : List ℕ) → 0 < length (without_gaps line) → words line ≡ word_at (without_gaps line) ∷ words (word_at (without_gaps line)).after
 unfolding words
 next_word line some = sym (gaps_pass line) ∙ begins_with_word (without_gaps line) (no_gap line) some
 
@@ -86,17 +86,17 @@ gap_is_ascii b e = grind (arith, nat_tests)
 stops_at_ascii : (b : ℕ) → is_solid b ≡ false → b < 128
 stops_at_ascii b e = grind (arith, nat_tests)
 
--- a text may be cut behind its gaps
-pub cut_behind_gaps : (text : List ℕ) (n : ℕ) → IsUtf8 text → n ≡ prefix_len is_gap text → IsCharBoundary text n
-cut_behind_gaps text zero utf8 is = IsCharBoundary-start text utf8
-cut_behind_gaps text (suc n) utf8 is =
+-- a text may be cut after its gaps
+pub cut_after_gaps : (text : List ℕ) (n : ℕ) → IsUtf8 text → n ≡ prefix_len is_gap text → IsCharBoundary text n
+cut_after_gaps text zero utf8 is = IsCharBoundary-start text utf8
+cut_after_gaps text (suc n) utf8 is =
     let bound = prefix_len-le-length is_gap text in
     let gap = gap_is_ascii (get_or text n 0) (prefix_len_passes is_gap text n 0 (omega arith)) in
     rw (← (add-one n)) (IsCharBoundary-after_ascii text n utf8 (omega arith) gap)
 
--- a text may be cut behind its first word
-pub cut_behind_word : (text : List ℕ) (n : ℕ) → n ≡ prefix_len is_solid text → IsCharBoundary text n
-cut_behind_word text n is = elim (cases_lt n (length text)) [
+-- a text may be cut after its first word
+pub cut_after_word : (text : List ℕ) (n : ℕ) → n ≡ prefix_len is_solid text → IsCharBoundary text n
+cut_after_word text n is = elim (cases_lt n (length text)) [
   | inl h ↦ IsCharBoundary-before_ascii text n h (stops_at_ascii (get_or text n 0) (rw is (prefix_len_stops is_solid text 0 (omega arith))))
   | inr h ↦ (let bound = prefix_len-le-length is_solid text in let whole : n ≡ length text = omega arith in rw whole (IsCharBoundary-end text))
 ]

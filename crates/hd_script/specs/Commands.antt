@@ -1,4 +1,4 @@
--- The commands of a script: what stands in the line of each, word by word, and what the line asks for.
+-- The commands of a script: what is in the line of each, word by word, and what the line asks for.
 use Rattle.std.specs.Prelude.{ℕ, List, [], ◌∷◌, Option, Some, None, Result, Ok, Err, if◌then◌else◌, codes}
 use Rattle.std.specs.Str.{bytes_eq, is_utf8}
 use Rattle.hd_layer.specs.declared.edit.Edit.TheVariants.{Define, Set, Clear, Remove, Rename}
@@ -11,7 +11,7 @@ use Rattle.hd_script.specs.Faults.{◌>>=◌}
 use Rattle.hd_script.specs.Lines.{Word, words, without_return, is_nothing}
 use Rattle.hd_script.specs.Fields.{number, size, file_name, prim_type, prim_path, property_name, property}
 
--- the next word as the form reads it, and the words behind it
+-- the next word as the form reads it, and the words after it
 abbrev pub field : {A : Type 0} → (List ℕ → Result A LineFault) → List Word → Result (A × List Word) LineFault
 field form [] = Err Syntax
 field form (w ∷ ws) = form w.text >>= λ value. Ok (value, ws)
@@ -42,12 +42,12 @@ define ws = do
   end ← ends path.1
   Ok (Edit (Define kind.0 path.0))
 
--- set PATH PROPERTY, where all that stands behind the path is the property
+-- set PATH PROPERTY, where all that is after the path is the property
 unfoldable pub set : List Word → Result Command LineFault
 set [] = Err Syntax
 set (w ∷ ws) = do
   path ← prim_path w.text
-  property ← property w.behind
+  property ← property w.after
   Ok (Edit (Set path property))
 
 -- clear PATH NAME
@@ -104,7 +104,7 @@ tiles ws = do
   end ← ends count.1
   Ok (Tiles count.0)
 
--- the command that the first word names, with the words behind it
+-- the command that the first word names, with the words after it
 unfoldable pub named_command : List ℕ → List Word → Result Command LineFault
 named_command name ws =
     if bytes_eq name (codes "layer") then layer ws

@@ -6,17 +6,17 @@ use Rattle.std.specs.Str.Parse.{digits_value}
 use Rattle.hd_path.specs.declared.fault.PathFault.{PathFault}
 use Rattle.hd_path.specs.declared.fault.PathFault.TheVariants as path
 use Rattle.hd_path.specs.Names.{is_digit, is_word}
-use Rattle.hd_path.specs.Parsing.{name_at, parsed}
+use Rattle.hd_path.specs.Parsing.{name_at, path_of_text}
 use Rattle.hd_layer.specs.declared.fault.LayerWhy.{LayerWhy}
 use Rattle.hd_layer.specs.declared.fault.LayerWhy.TheVariants as why
 use Rattle.hd_layer.specs.declared.limits.Which.TheVariants.{Depth, Name, Frame}
 use Rattle.hd_layer.specs.declared.spec.Property.{Property}
-use Rattle.hd_usda.specs.Cursors.{Fault}
+use Rattle.hd_usda.specs.reading.Cursor.{Fault}
 use Rattle.hd_lexer.specs.Lexing.{begins}
 use Rattle.hd_layer.specs.Limits.{limit_of}
 use Rattle.hd_tokens.specs.Names.{is_joined}
 use Rattle.hd_path.specs.Paths.{Path}
-use Rattle.hd_usda.specs.Statements.{reads_property}
+use Rattle.hd_usda.specs.Statement.{reads_property}
 use Rattle.hd_script.specs.declared.fault.LineFault.{LineFault}
 use Rattle.hd_script.specs.declared.fault.LineFault.TheVariants.{Syntax, LeftOut, Fraction, Limit}
 use Rattle.hd_script.specs.Faults.{◌>>=◌}
@@ -55,7 +55,7 @@ is_file_name text = nat_le 1 (length text) && nat_le (length text) 64 && list_al
 unfoldable pub file_name : List ℕ → Result (List ℕ) LineFault
 file_name text = if is_file_name text then Ok text else Err Syntax
 
--- what is wrong with a path, where want of memory, which no text has, counts as syntax
+-- what is wrong with a path, where lack of memory, which no text has, counts as syntax
 abbrev pub path_fault : PathFault → LineFault
 path_fault (path.Syntax at) = Syntax
 path_fault path.TooDeep = Limit Depth
@@ -63,15 +63,15 @@ path_fault path.NameTooLong = Limit Name
 path_fault path.NoMemory = Syntax
 
 -- a name that was parsed
-abbrev pub named : Result (List ℕ) PathFault → Result (List ℕ) LineFault
-named (Ok name) = Ok name
-named (Err fault) = Err (path_fault fault)
+abbrev pub checked_name : Result (List ℕ) PathFault → Result (List ℕ) LineFault
+checked_name (Ok name) = Ok name
+checked_name (Err fault) = Err (path_fault fault)
 
 -- an identifier within the limit, as the first name of a path is
 abbrev pub identifier : List ℕ → Result (List ℕ) LineFault
-identifier text = named (name_at 0 0 text)
+identifier text = checked_name (name_at 0 0 text)
 
--- the type of a prim, where `-` stands for none
+-- the type of a prim, where `-` is for none
 unfoldable pub prim_type : List ℕ → Result (List ℕ) LineFault
 prim_type text = if bytes_eq text (codes "-") then Ok [] else identifier text
 
@@ -83,7 +83,7 @@ below_root (Err fault) = Err (path_fault fault)
 
 -- the path of a prim
 unfoldable pub prim_path : List ℕ → Result Path LineFault
-prim_path text = below_root (parsed text)
+prim_path text = below_root (path_of_text text)
 
 -- the name of a property
 unfoldable pub property_name : List ℕ → Result (List ℕ) LineFault

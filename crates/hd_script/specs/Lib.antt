@@ -1,7 +1,7 @@
 pub mod Faults
 pub mod Lines
-pub mod Views
 pub mod Fields
 pub mod Commands
 pub mod WellFormed
 pub mod Laws
+pub mod inner

@@ -27,14 +27,14 @@ is_comment (b ∷ bs) = b == 35
 abbrev pub is_nothing : List ℕ → Bool
 is_nothing text = is_comment (without_gaps text)
 
--- a word, and all that stands behind it in the line
+-- a word, and all that is after it in the line
 pub record Word : Type 0 where
   pub text : List ℕ
-  pub behind : List ℕ
+  pub after : List ℕ
 
 -- the word at the front
 abbrev pub word_at : List ℕ → Word
-word_at text = let n = prefix_len is_solid text in record { text = take n text; behind = drop n text }
+word_at text = let n = prefix_len is_solid text in record { text = take n text; after = drop n text }
 
 -- the words of a text, which begins inside a word or not
 abbrev pub words_from : Bool → List ℕ → List Word

@@ -33,7 +33,7 @@ pub enum Command {
     Pause,
     /// Lets it go on.
     Resume,
-    /// Ends it as it stands.
+    /// Ends it as it is.
     Stop,
     /// Ends it with all its tiles.
     Wait,

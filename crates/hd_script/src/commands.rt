@@ -1,4 +1,4 @@
-//! The commands, each by the words behind its name.
+//! The commands, each by the words after its name.
 
 ghost use Rattle.std.specs.Prelude.{◌≡◌, IfOk, IsTrue};
 ghost use Rattle.hd_layer.specs.WellFormed.{is_below_root};
@@ -129,7 +129,7 @@ fn set(alloc: Global, words: &mut Words) -> Result<Command, LineFault>
     match words.next() {
         Some(word) => {
             let path = prim_path(alloc, word.text)?;
-            let property = property(alloc, word.behind)?;
+            let property = property(alloc, word.after)?;
             Ok(Command::Edit(Edit::Set { path, property }))
         }
         None => Err(LineFault::Syntax),
@@ -227,7 +227,7 @@ fn tiles(words: &mut Words) -> Result<Command, LineFault>
     Ok(Command::Tiles(count))
 }
 
-/// The command that the first word names, with the words behind it.
+/// The command that the first word names, with the words after it.
 #[tactic(auto, unfolding(crate::specs::Commands::named_command))]
 fn named_command(alloc: Global, name: &str, words: &mut Words) -> Result<Command, LineFault>
     ensures given { Gives (λ command. command) result (named_command name.now words.old) }

@@ -130,7 +130,7 @@ fn identifier(alloc: Global, text: &str) -> Result<Token, LineFault>
     }
 }
 
-/// The type of a prim, where `-` stands for none.
+/// The type of a prim, where `-` is for none.
 #[tactic(auto, unfolding(crate::specs::Fields::prim_type))]
 pub fn prim_type(alloc: Global, text: &str) -> Result<Token, LineFault>
     ensures { Gives (λ kind. kind) result (prim_type text.now) }

@@ -4,15 +4,15 @@ ghost use Rattle.std.specs.Prelude.{◌≡◌, ◌∷◌, [], ◌≤◌, length,
 ghost use Rattle.std.specs.List.{prefix_len};
 ghost use Rattle.std.specs.Option.{IfNone};
 ghost use Rattle.hd_script.specs.Lines.{is_gap, is_solid, without_gaps, word_at, words};
-ghost use Rattle.hd_script.specs.Views.{word_view};
+ghost use Rattle.hd_script.specs.inner.Views.{word_view};
 
 use std::marker::Model;
 
-/// A word, and all that stands behind it in the line.
-#[derive(Clone, Copy, Debug)]
+/// A word, and all that is after it in the line.
+#[derive(Clone, Copy)]
 pub struct Word<'a> {
     pub text: &'a str,
-    pub behind: &'a str,
+    pub after: &'a str,
 }
 
 /// A line that is read once, from left to right: the words that are left of it.
@@ -30,7 +30,7 @@ impl<'a> Model for Words<'a> {
     ghost view = { λ w. words w.rest.now };
 }
 
-/// How many spaces and tabs stand at the front.
+/// How many spaces and tabs are at the front.
 fn gap_len(text: &[u8]) -> usize
     ensures count { result ≡ prefix_len is_gap text.now }
     ensures bound { result ≤ length text.now }
@@ -40,7 +40,7 @@ fn gap_len(text: &[u8]) -> usize
         .count()
 }
 
-/// How many bytes stand before the first space or tab.
+/// How many bytes are before the first space or tab.
 fn solid_len(text: &[u8]) -> usize
     ensures count { result ≡ prefix_len is_solid text.now }
     ensures bound { result ≤ length text.now }
@@ -71,7 +71,7 @@ fn word_at(text: &str) -> Word<'_>
     let len = solid_len(text.as_bytes());
     Word {
         text: &text[..len],
-        behind: &text[len..],
+        after: &text[len..],
     }
 }
 
@@ -94,7 +94,7 @@ impl<'a> Words<'a> {
             return None;
         }
         let word = word_at(rest);
-        self.rest = word.behind;
+        self.rest = word.after;
         Some(word)
     }
 }

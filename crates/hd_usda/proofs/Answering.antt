@@ -3,8 +3,8 @@ use Rattle.std.proofs.Common.{◌≡◌, ℕ, zero, suc, Result, Ok, Err, Bool, 
 use Rattle.hd_lexer.specs.declared.lexer.Kind.{Kind}
 use Rattle.hd_layer.specs.declared.fault.LayerWhy.TheVariants.{Syntax}
 use Rattle.hd_lexer.specs.Lexing.{Tokens}
-use Rattle.hd_usda.specs.Cursors.{◌>>=◌, Fault, is, rest, count, fault_at}
-use Rattle.hd_usda.specs.Loops.{all, all_by}
+use Rattle.hd_usda.specs.reading.Cursor.{◌>>=◌, Fault, is, rest, count, fault_at}
+use Rattle.hd_usda.specs.reading.Loops.{all, all_by}
 
 -- a first form answered, and what follows it did
 pub record Answered {A B : Type 0} (o : Result A Fault) (f : A → Result B Fault) (y : B) : Type 0 where
@@ -75,7 +75,7 @@ Whatever x = Unit {0}
 pub on_any : {A : Type 0} (o : Result A Fault) → Leaves Whatever o
 on_any o x e = tt
 
--- what holds before a repetition, and is kept by each of its forms and by the closing token, holds behind it
+-- what holds before a repetition, and is kept by each of its forms and by the closing token, holds after it
 pub on_all : {S : Type 0} (P : S × Tokens → Type 0) (close : Kind) (form : S → Tokens → Result (S × Tokens) Fault) → ((s : S) (ts : Tokens) → P (s, ts) → P (s, rest ts))
     → ((s : S) (ts : Tokens) → P (s, ts) → Leaves P (form s ts)) → (s : S) (ts : Tokens) → P (s, ts) → Leaves P (all close form s ts)
 unfolding all all_by

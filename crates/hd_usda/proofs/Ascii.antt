@@ -9,7 +9,7 @@ use Rattle.hd_path.specs.Names.{is_letter, is_word, is_identifier}
 use Rattle.hd_path.specs.Parsing.{is_slash}
 use Rattle.hd_tokens.specs.Names.{is_non_finite_word, is_plain_word, is_colon, is_joined, is_any}
 use Rattle.hd_tokens.specs.Properties.{visibilities, purposes, op_value_kind, first_part, op_kind_of, is_used, is_op_entry}
-use Rattle.hd_usda.specs.Targets.{are_identifiers, is_prim_path}
+use Rattle.hd_usda.specs.used.Targets.{are_identifiers, is_prim_path}
 
 -- the test of it
 abbrev is_ascii : List ℕ → Bool

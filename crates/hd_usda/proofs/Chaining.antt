@@ -1,11 +1,11 @@
--- A loop that reads one form behind each separator: `while reader.passes(sep) { form(reader, &mut state)?; }`.
+-- A loop that reads one form after each separator: `while reader.passes(sep) { form(reader, &mut state)?; }`.
 use Rattle.std.proofs.Common.{◌≡◌, ℕ, zero, suc, ◌<◌, ◌≤◌, List, [], ◌∷◌, length, Result, Ok, Err, Bool, true, false, if◌then◌else◌, refl, sym, ap, ◌∙◌, arith}
 use Rattle.hd_lexer.specs.declared.lexer.Kind.{Kind}
 use Rattle.hd_layer.specs.declared.fault.LayerFault.{LayerFault}
 use Rattle.hd_layer.specs.declared.fault.LayerFault.TheVariants as faults
 use Rattle.hd_lexer.specs.Lexing.{Tokens, Token}
-use Rattle.hd_usda.specs.Cursors.{is, rest, count, tail, Fault, fault_in, Fails}
-use Rattle.hd_usda.specs.Loops.{chain, chain_by}
+use Rattle.hd_usda.specs.reading.Cursor.{is, rest, count, tail, Fault, fault_in, Fails}
+use Rattle.hd_usda.specs.reading.Loops.{chain, chain_by}
 
 -- what is read from ts on, after s, is what was to be read from the start on, with as many rounds as are needed
 pub record Chains {S : Type 0} (sep : Kind) (form : S → Tokens → Result (S × Tokens) Fault) (first : S) (start : Tokens) (s : S) (ts : Tokens) : Type 0 where

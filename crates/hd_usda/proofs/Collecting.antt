@@ -4,8 +4,8 @@ use Rattle.hd_lexer.specs.declared.lexer.Kind.{Kind}
 use Rattle.hd_layer.specs.declared.fault.LayerFault.{LayerFault}
 use Rattle.hd_layer.specs.declared.fault.LayerFault.TheVariants as faults
 use Rattle.hd_lexer.specs.Lexing.{Tokens}
-use Rattle.hd_usda.specs.Cursors.{is, rest, count, Fault, fault_in, Fails}
-use Rattle.hd_usda.specs.Loops.{all, all_by}
+use Rattle.hd_usda.specs.reading.Cursor.{is, rest, count, Fault, fault_in, Fails}
+use Rattle.hd_usda.specs.reading.Loops.{all, all_by}
 
 -- what is read from ts on, after s, is what was to be read from the start on, with as many rounds as are needed
 pub record Collects {S : Type 0} (close : Kind) (form : S → Tokens → Result (S × Tokens) Fault) (first : S) (start : Tokens) (s : S) (ts : Tokens) : Type 0 where

@@ -6,10 +6,10 @@ use Rattle.std.specs.Ordering.{is_eq}
 use Rattle.hd_layer.specs.declared.limits.Which.TheVariants.{Prims}
 use Rattle.hd_layer.specs.declared.spec.PrimSpec.{PrimSpec}
 use Rattle.hd_layer.specs.Limits.{limit_of}
-use Rattle.hd_usda.specs.Cursors.{rest}
-use Rattle.hd_usda.specs.Loops.{all}
+use Rattle.hd_usda.specs.reading.Cursor.{rest}
+use Rattle.hd_usda.specs.reading.Loops.{all}
 use Rattle.hd_path.specs.Paths.{path_cmp, Path}
-use Rattle.hd_usda.specs.Prims.{Found, with_prim, layer_of}
+use Rattle.hd_usda.specs.grammar.Prims.{LayerBuilder, with_prim, layer_of}
 use Rattle.hd_layer.specs.WellFormed.{is_prim_spec, ascend, has_parent, is_layer, is_kind, has_kinds}
 use Rattle.hd_usda.proofs.OrderedPaths.{Entries, keys, with_entry, equal_path, itself, values_pass, stay_ordered, among, one_more, one_longer, IsKeyed, stay_keyed, keyed_paths}
 
@@ -17,12 +17,12 @@ use Rattle.hd_usda.proofs.OrderedPaths.{Entries, keys, with_entry, equal_path, i
 abbrev pub parent : Path → Path
 parent p = take (length p - 1) p
 
--- each prim stands at the root, below another, or below one that is still open
+-- each prim is at the root, below another, or below one that is still open
 pub Parented : (Path → Type 0) → Entries → Type 0
 Parented Open es = (p : Path) → among (keys es) p ≡ true → (length p ≡ 1) ⊎ ((among (keys es) (parent p) ≡ true) ⊎ Open (parent p))
 
 -- the prims so far are well formed, but for the parents that are still open
-pub record IsFound (Open : Path → Type 0) (f : Found) : Type 0 where
+pub record IsFound (Open : Path → Type 0) (f : LayerBuilder) : Type 0 where
   pub keyed : IsKeyed f.prims
   pub ordered : ascend (keys f.prims) ≡ true
   pub specs : list_all is_prim_spec (map (λ e. e.1) f.prims) ≡ true
@@ -30,21 +30,21 @@ pub record IsFound (Open : Path → Type 0) (f : Found) : Type 0 where
   pub parents : Parented Open f.prims
 
 -- prims came, and not more than were counted
-pub record Counts (before after : Found) : Type 0 where
+pub record Counts (before after : LayerBuilder) : Type 0 where
   pub fewer : length after.prims + before.count ≤ length before.prims + after.count
   pub limited : before.count ≤ 65536 → after.count ≤ 65536
 
-pub no_counts : (f : Found) → Counts f f
+pub no_counts : (f : LayerBuilder) → Counts f f
 no_counts f = record { fewer = omega arith; limited = λ h. h }
 
-pub then_counts : (f g h : Found) → Counts f g → Counts g h → Counts f h
+pub then_counts : (f g h : LayerBuilder) → Counts f g → Counts g h → Counts f h
 then_counts f g h a b = record { fewer = omega (arith, a.fewer, b.fewer); limited = λ l. b.limited (a.limited l) }
 
 -- below a path that is open too
-abbrev pub opened : (Path → Type 0) → Path → Path → Type 0
-opened Open own p = Open p ⊎ (p ≡ own)
+abbrev pub below_open : (Path → Type 0) → Path → Path → Type 0
+below_open Open own p = Open p ⊎ (p ≡ own)
 
-pub open_more : (Open : Path → Type 0) (own : Path) (f : Found) (n : ℕ) → IsFound Open f → IsFound (opened Open own) (record f { count = n })
+pub open_more : (Open : Path → Type 0) (own : Path) (f : LayerBuilder) (n : ℕ) → IsFound Open f → IsFound (below_open Open own) (record f { count = n })
 unfolding Parented
 open_more Open own f n h = record { keyed = h.keyed; ordered = h.ordered; specs = h.specs; kinds = h.kinds; parents = λ p there. widen (length p ≡ 1) (among (keys f.prims) (parent p) ≡ true) (parent p) (h.parents p there) }
   where
@@ -61,12 +61,12 @@ parent_of path name = let size = length-append path (name ∷ []) in let less : 
     front (n ∷ p) = ap (λ q. n ∷ q) (front p)
 
 -- the paths with one more
-abbrev with_one : Found → PrimSpec → List Path
+abbrev with_one : LayerBuilder → PrimSpec → List Path
 with_one f v = keys (with_entry f.prims v.path v)
 
 -- a prim that ends is among the others from then on
-pub close_one : (Open : Path → Type 0) (path : Path) (name : List ℕ) (v : PrimSpec) (f : Found) → (path ≡ []) ⊎ Open path → v.path ≡ path ++ name ∷ [] → is_prim_spec v ≡ true → is_kind v.kind ≡ true
-    → IsFound (opened Open (path ++ name ∷ [])) f → IsFound Open (with_prim true v f)
+pub close_one : (Open : Path → Type 0) (path : Path) (name : List ℕ) (v : PrimSpec) (f : LayerBuilder) → (path ≡ []) ⊎ Open path → v.path ≡ path ++ name ∷ [] → is_prim_spec v ≡ true → is_kind v.kind ≡ true
+    → IsFound (below_open Open (path ++ name ∷ [])) f → IsFound Open (with_prim true v f)
 unfolding Parented
 close_one Open path name v f above own good kind h = record {
   keyed = stay_keyed f.prims v h.keyed;
@@ -97,7 +97,7 @@ close_one Open path name v f above own good kind h = record {
     case p (inr there) = below p (h.parents p there)
 
 -- a prim that ends was counted
-pub one_counted : (s inner : Found) (n : ℕ) (v : PrimSpec) → (n ≡ s.count + 1) × (s.count < 65536) → Counts (record s { count = n }) inner → Counts s (with_prim true v inner)
+pub one_counted : (s inner : LayerBuilder) (n : ℕ) (v : PrimSpec) → (n ≡ s.count + 1) × (s.count < 65536) → Counts (record s { count = n }) inner → Counts s (with_prim true v inner)
 one_counted s inner n v counted h =
     let more = one_longer inner.prims v.path v in
     let fewer = h.fewer in
@@ -123,7 +123,7 @@ keys_have_parents es h = all_parents (keys es) (keys es) (λ p there. has p (h p
     has p (inr (inl there)) = or_right (length p == 1) (among (keys es) (parent p)) there
     has p (inr (inr never)) = absurd never
 
-unfoldable pub nothing_found : Found
+unfoldable pub nothing_found : LayerBuilder
 nothing_found = record { prims = []; count = 0 }
 
 pub nothing_is : IsFound none_open nothing_found
@@ -134,7 +134,7 @@ size_of : (es : Entries) → length (keys es) ≡ length es
 size_of [] = refl
 size_of (e ∷ es) = ap suc (size_of es)
 
-pub found_layer : (f : Found) → IsFound none_open f → Counts nothing_found f → is_layer (layer_of f) ≡ true
+pub found_layer : (f : LayerBuilder) → IsFound none_open f → Counts nothing_found f → is_layer (layer_of f) ≡ true
 unfolding nothing_found
 found_layer f h c =
     let few = c.fewer in
@@ -146,5 +146,5 @@ found_layer f h c =
     let third = and_from (nat_le (length (keys f.prims)) (limit_of Prims) && list_all is_prim_spec (map (λ e. e.1) f.prims) && ascend (keys f.prims)) (list_all (has_parent (keys f.prims)) (keys f.prims)) second (keys_have_parents f.prims h.parents) in
     subst (λ ps. (nat_le (length ps) (limit_of Prims) && list_all is_prim_spec (map (λ e. e.1) f.prims) && ascend ps && list_all (has_parent ps) ps) ≡ true) (keyed_paths f.prims h.keyed) third
 
-pub found_kinds : (f : Found) → IsFound none_open f → has_kinds (layer_of f) ≡ true
+pub found_kinds : (f : LayerBuilder) → IsFound none_open f → has_kinds (layer_of f) ≡ true
 found_kinds f h = h.kinds

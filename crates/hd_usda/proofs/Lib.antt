@@ -30,5 +30,6 @@ pub mod Leaving
 pub mod LeavingValues
 pub mod LeavingItems
 pub mod WordTokens
+pub mod ScriptNames
+pub mod ScriptProperties
 pub mod ScriptItems
-pub mod ScriptValues

@@ -67,12 +67,12 @@ values_pass test (e ∷ es) q v h t = step (path_cmp q e.0) (values_pass test es
     step Equal more = and_from (test v) (list_all test (map (λ e. e.1) es)) t both.1
     step Greater more = and_from (test e.1) (list_all test (map (λ e. e.1) (with_entry es q v))) both.0 more
 
--- what stands behind a later path stands behind an earlier one
-all_behind : (p q : Path) (ps : List Path) → path_cmp p q ≡ Less → list_all (λ next. is_lt (path_cmp q next)) ps ≡ true → list_all (λ next. is_lt (path_cmp p next)) ps ≡ true
-all_behind p q [] before h = refl
-all_behind p q (r ∷ ps) before h =
+-- what is after a later path is after an earlier one
+all_after : (p q : Path) (ps : List Path) → path_cmp p q ≡ Less → list_all (λ next. is_lt (path_cmp q next)) ps ≡ true → list_all (λ next. is_lt (path_cmp p next)) ps ≡ true
+all_after p q [] before h = refl
+all_after p q (r ∷ ps) before h =
     let both = and_parts (is_lt (path_cmp q r)) (list_all (λ next. is_lt (path_cmp q next)) ps) h in
-    and_from (is_lt (path_cmp p r)) (list_all (λ next. is_lt (path_cmp p next)) ps) (ap is_lt (path_total.trans p q r before (less (path_cmp q r) both.0))) (all_behind p q ps before both.1)
+    and_from (is_lt (path_cmp p r)) (list_all (λ next. is_lt (path_cmp p next)) ps) (ap is_lt (path_total.trans p q r before (less (path_cmp q r) both.0))) (all_after p q ps before both.1)
 
 pub stay_ordered : (es : Entries) (q : Path) (v : PrimSpec) → ascend (keys es) ≡ true → ascend (keys (with_entry es q v)) ≡ true
 stay_ordered [] q v h = refl
@@ -83,7 +83,7 @@ stay_ordered (e ∷ es) q v h = step (path_cmp q e.0) refl (stay_ordered es q v 
 
     step : (o : Ordering) → path_cmp q e.0 ≡ o → ascend (keys (with_entry es q v)) ≡ true → ascend (keys (match_ordering o ((q, v) ∷ e ∷ es) ((e.0, v) ∷ es) (e ∷ with_entry es q v))) ≡ true
     step Less is more = and_from (list_all (λ next. is_lt (path_cmp q next)) (e.0 ∷ keys es)) (ascend (e.0 ∷ keys es))
-        (and_from (is_lt (path_cmp q e.0)) (list_all (λ next. is_lt (path_cmp q next)) (keys es)) (ap is_lt is) (all_behind q e.0 (keys es) is both.0)) h
+        (and_from (is_lt (path_cmp q e.0)) (list_all (λ next. is_lt (path_cmp q next)) (keys es)) (ap is_lt is) (all_after q e.0 (keys es) is both.0)) h
     step Equal is more = h
     step Greater is more = and_from (list_all (λ next. is_lt (path_cmp e.0 next)) (keys (with_entry es q v))) (ascend (keys (with_entry es q v)))
         (keys_pass (λ next. is_lt (path_cmp e.0 next)) es q v both.0 (ap is_lt (path_total.antisymm e.0 q ∙ ap ordering_reverse is))) more
@@ -123,7 +123,7 @@ one_longer (e ∷ es) q v = step (path_cmp q e.0) (one_longer es q v)
     step Equal more = omega arith
     step Greater more = omega arith
 
--- each prim stands at its path
+-- each prim is at its path
 abbrev pub IsKeyed : Entries → Type 0
 IsKeyed [] = Unit {0}
 IsKeyed (e ∷ es) = (e.0 ≡ e.1.path) × IsKeyed es

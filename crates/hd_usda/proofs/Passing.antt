@@ -4,8 +4,8 @@ use Rattle.hd_lexer.specs.declared.lexer.Kind.{Kind}
 use Rattle.hd_layer.specs.declared.fault.LayerFault.{LayerFault}
 use Rattle.hd_layer.specs.declared.fault.LayerFault.TheVariants as faults
 use Rattle.hd_lexer.specs.Lexing.{Tokens}
-use Rattle.hd_usda.specs.Cursors.{is, rest, count, Fault, fault_in, Fails}
-use Rattle.hd_usda.specs.Loops.{past, past_by}
+use Rattle.hd_usda.specs.reading.Cursor.{is, rest, count, Fault, fault_in, Fails}
+use Rattle.hd_usda.specs.reading.Loops.{past, past_by}
 
 -- what is read from ts on is what was to be read from the start on, with as many rounds as are needed
 pub record Leads (close : Kind) (form : Tokens → Result Tokens Fault) (start ts : Tokens) : Type 0 where

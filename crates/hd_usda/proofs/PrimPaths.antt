@@ -8,11 +8,11 @@ use Rattle.std.specs.List.{list_all, list_any}
 use Rattle.hd_path.specs.declared.fault.PathFault.{PathFault}
 use Rattle.hd_path.specs.declared.fault.PathFault.TheVariants.{NoMemory}
 use Rattle.hd_path.specs.Names.{is_identifier, IsName}
-use Rattle.hd_path.specs.Paths.{IsPath, path_text, slashed}
+use Rattle.hd_path.specs.Paths.{IsPath, path_text, names_text}
 use Rattle.hd_path.proofs.Slashes.{slashed-pieces, is_slash_is}
 use Rattle.hd_path.specs.Parsing.{is_slash, pieces}
-use Rattle.hd_usda.specs.Targets.{are_identifiers, is_prim_path, has_long, names_of}
-use Rattle.hd_usda.specs.Names.{is_long}
+use Rattle.hd_usda.specs.used.Targets.{are_identifiers, is_prim_path, has_long, names_of}
+use Rattle.hd_usda.specs.reading.Words.{is_long}
 
 within : (n bound : ℕ) → nat_lt bound n ≡ false → n ≤ bound
 within n bound h = grind (arith, nat_tests)
@@ -42,7 +42,7 @@ spelled_text (b ∷ bs) prim =
     let parts = and_parts (is_slash b) (are_identifiers bs) prim in
     some (pieces bs) (omega (arith, length-slice_split is_slash bs)) ∙ slashed-pieces bs ∙ ap (λ c. c ∷ bs) (sym (is_slash_is b parts.0))
   where
-    some : (ps : List (List ℕ)) → 0 < length ps → path_text ps ≡ slashed ps
+    some : (ps : List (List ℕ)) → 0 < length ps → path_text ps ≡ names_text ps
     some [] h = absurd (omega arith)
     some (p ∷ ps) h = refl
 

@@ -3,31 +3,31 @@ use Rattle.std.proofs.Common.{◌≡◌, ℕ, zero, suc, ◌<◌, ◌≤◌, Lis
 use Rattle.hd_lexer.specs.declared.lexer.Kind.{Kind}
 use Rattle.hd_lexer.specs.declared.lexer.Kind.TheVariants.{End}
 use Rattle.hd_lexer.specs.Lexing.{Token, Tokens}
-use Rattle.hd_usda.specs.Cursors.{◌>>=◌, Fault, Past, Form, is, same_kind, rest, tail, count, take, past_one}
-use Rattle.hd_usda.specs.Loops.{past, past_by, all, all_by, chain, chain_by}
+use Rattle.hd_usda.specs.reading.Cursor.{◌>>=◌, Fault, Past, Form, is, same_kind, rest, tail, count, take, past_one}
+use Rattle.hd_usda.specs.reading.Loops.{past, past_by, all, all_by, chain, chain_by}
 use Rattle.hd_usda.proofs.Heading.{one_fewer}
 
 -- fewer than n tokens are left
 abbrev pub Below : ℕ → Tokens → Type 0
 Below n ts = count ts < n
 
--- fewer than n tokens are left behind a value
-abbrev pub Behind : {A : Type 0} → ℕ → A × Tokens → Type 0
-Behind n r = count r.1 < n
+-- fewer than n tokens are left after a value
+abbrev pub After : {A : Type 0} → ℕ → A × Tokens → Type 0
+After n r = count r.1 < n
 
--- the tokens behind a form are fewer
+-- the tokens after a form are fewer
 abbrev pub PastTakes : Past → Type 0
 PastTakes form = (ts : Tokens) → IfOk (form ts) (Below (count ts))
 
 abbrev pub Takes : {A : Type 0} → Form A → Type 0
-Takes form = (ts : Tokens) → IfOk (form ts) (Behind (count ts))
+Takes form = (ts : Tokens) → IfOk (form ts) (After (count ts))
 
--- the tokens behind a form are not more: below each bound that is kept
+-- the tokens after a form are not more: below each bound that is kept
 abbrev pub PastKeeps : Past → Type 0
 PastKeeps form = (n : ℕ) (ts : Tokens) → count ts < n → IfOk (form ts) (Below n)
 
 abbrev pub Keeps : {A : Type 0} → Form A → Type 0
-Keeps form = (n : ℕ) (ts : Tokens) → count ts < n → IfOk (form ts) (Behind n)
+Keeps form = (n : ℕ) (ts : Tokens) → count ts < n → IfOk (form ts) (After n)
 
 -- where a first step keeps P, and what follows it makes Q of that
 pub chained : {A B : Type 0} (P : A → Type 0) (Q : B → Type 0) (f : A → Result B Fault) (o : Result A Fault) → IfOk o P → ((x : A) → P x → IfOk (f x) Q) → IfOk (o >>= f) Q
@@ -48,7 +48,7 @@ past_raised : (m n : ℕ) (o : Result Tokens Fault) → m ≤ n → IfOk o (Belo
 past_raised m n (Ok ts) low h = omega arith
 past_raised m n (Err fault) low h = tt
 
-raised : {A : Type 0} (m n : ℕ) (o : Result (A × Tokens) Fault) → m ≤ n → IfOk o (Behind m) → IfOk o (Behind n)
+raised : {A : Type 0} (m n : ℕ) (o : Result (A × Tokens) Fault) → m ≤ n → IfOk o (After m) → IfOk o (After n)
 raised m n (Ok r) low h = omega arith
 raised m n (Err fault) low h = tt
 
@@ -60,14 +60,14 @@ pub keeps : {A : Type 0} (form : Form A) → Takes form → Keeps form
 keeps form takes n ts low = raised (count ts) n (form ts) (omega arith) (takes ts)
 
 -- the same of tokens that are not more than a bound
-pub later : {A : Type 0} (form : Form A) → Takes form → (n : ℕ) (ts : Tokens) → count ts < suc n → IfOk (form ts) (Behind n)
+pub later : {A : Type 0} (form : Form A) → Takes form → (n : ℕ) (ts : Tokens) → count ts < suc n → IfOk (form ts) (After n)
 later form takes n ts low = raised (count ts) n (form ts) (omega arith) (takes ts)
 
 no_more : (list : List Token) → length (tail list) ≤ length list
 no_more [] = omega arith
 no_more (t ∷ ts) = omega arith
 
--- the tokens behind the next
+-- the tokens after the next
 pub rest_keeps : (n : ℕ) (ts : Tokens) → count ts < n → count (rest ts) < n
 rest_keeps n ts low = let h = no_more ts.list in omega arith
 
@@ -86,7 +86,7 @@ past_one_keeps k n ts low = at (is k ts)
     at true = rest_keeps n ts low
     at false = low
 
--- the tokens behind a repetition are not more
+-- the tokens after a repetition are not more
 pub rounds_keep : (close : Kind) (form : Past) → PastKeeps form → (rounds : ℕ) → PastKeeps (past_by close form rounds)
 unfolding past_by
 rounds_keep close form keep zero n ts low = tt
@@ -102,8 +102,8 @@ all_rounds_keep : {S : Type 0} (close : Kind) (form : S → Form S) → ((s : S)
 unfolding all_by
 all_rounds_keep close form keep zero s n ts low = tt
 all_rounds_keep close form keep (suc rounds) s n ts low =
-    chosen (Behind n) _ _ (is close ts) (λ _. rest_keeps n ts low) (λ _.
-    chained (Behind n) (Behind n) (λ r. all_by close form rounds r.0 r.1) (form s ts) (keep s n ts low) (λ r low1. all_rounds_keep close form keep rounds r.0 n r.1 low1))
+    chosen (After n) _ _ (is close ts) (λ _. rest_keeps n ts low) (λ _.
+    chained (After n) (After n) (λ r. all_by close form rounds r.0 r.1) (form s ts) (keep s n ts low) (λ r low1. all_rounds_keep close form keep rounds r.0 n r.1 low1))
 
 pub all_keeps : {S : Type 0} (close : Kind) (form : S → Form S) → ((s : S) → Keeps (form s)) → (s : S) → Keeps (all close form s)
 unfolding all
@@ -113,8 +113,8 @@ chain_rounds_keep : {S : Type 0} (separator : Kind) (form : S → Form S) → ((
 unfolding chain_by
 chain_rounds_keep separator form keep zero s n ts low = tt
 chain_rounds_keep separator form keep (suc rounds) s n ts low =
-    chosen (Behind n) _ _ (is separator ts) (λ _.
-    chained (Behind n) (Behind n) (λ r. chain_by separator form rounds r.0 r.1) (form s (rest ts)) (keep s n (rest ts) (rest_keeps n ts low)) (λ r low1. chain_rounds_keep separator form keep rounds r.0 n r.1 low1))
+    chosen (After n) _ _ (is separator ts) (λ _.
+    chained (After n) (After n) (λ r. chain_by separator form rounds r.0 r.1) (form s (rest ts)) (keep s n (rest ts) (rest_keeps n ts low)) (λ r low1. chain_rounds_keep separator form keep rounds r.0 n r.1 low1))
     (λ _. low)
 
 pub chain_keeps : {S : Type 0} (separator : Kind) (form : S → Form S) → ((s : S) → Keeps (form s)) → (s : S) → Keeps (chain separator form s)

@@ -2,13 +2,13 @@
 use Rattle.std.proofs.Common.{◌≡◌, ℕ, zero, suc, ◌<◌, List, Ok, Bool, true, false, ◌||◌, ◌&&◌, codes, bytes_eq, refl}
 use Rattle.hd_lexer.specs.declared.lexer.Kind.TheVariants.{Word, Number, Text, Asset, PathText, OpenRound, CloseRound, OpenSquare, CloseSquare, OpenCurly, CloseCurly, Equals, Comma, Colon, Semicolon}
 use Rattle.hd_lexer.specs.Lexing.{Tokens}
-use Rattle.hd_usda.specs.Cursors.{Past, is, rest, count, text, line_of, take}
-use Rattle.hd_usda.specs.Loops.{chain}
-use Rattle.hd_usda.specs.Values.{type_name, next_word, more_words, key, next_of_tuple, next_of_list, entry_of_dict, tuple, list, dict, plain_value, value}
-use Rattle.hd_usda.specs.Metadata.{list_ops, left_out_keys, is_off, behind_key, keyed, entry, metadata}
+use Rattle.hd_usda.specs.reading.Cursor.{Past, is, rest, count, text, line_of, take}
+use Rattle.hd_usda.specs.reading.Loops.{chain}
+use Rattle.hd_usda.specs.grammar.Value.{type_name, next_word, more_words, key, next_of_tuple, next_of_list, entry_of_dict, tuple, list, dict, plain_value, value}
+use Rattle.hd_usda.specs.grammar.Metadata.{list_ops, left_out_keys, is_off, after_key, keyed, entry, metadata}
 use Rattle.hd_tokens.specs.Names.{is_any}
 use Rattle.hd_usda.proofs.Heading.{one_fewer}
-use Rattle.hd_usda.proofs.Takes.{Below, Behind, PastTakes, Takes, PastKeeps, chained, chosen, past_keeps, keeps, rest_keeps, take_takes, take_keeps, past_one_keeps, past_form_keeps, chain_keeps}
+use Rattle.hd_usda.proofs.Takes.{Below, After, PastTakes, Takes, PastKeeps, chained, chosen, past_keeps, keeps, rest_keeps, take_takes, take_keeps, past_one_keeps, past_form_keeps, chain_keeps}
 
 type_name_takes : PastTakes type_name
 unfolding type_name
@@ -18,12 +18,12 @@ type_name_takes ts =
 
 pub next_word_takes : (s : Unit {0}) → Takes (next_word s)
 unfolding next_word
-next_word_takes s ts = chained (Below (count ts)) (Behind (count ts)) _ (take Word ts) (take_takes Word refl ts) (λ u low. low)
+next_word_takes s ts = chained (Below (count ts)) (After (count ts)) _ (take Word ts) (take_takes Word refl ts) (λ u low. low)
 
 more_words_keep : PastKeeps more_words
 unfolding more_words
 more_words_keep n ts low =
-    chained (Behind n) (Below n) _ (chain Colon next_word tt ts) (chain_keeps Colon next_word (λ s. keeps (next_word s) (next_word_takes s)) tt n ts low) (λ r low1. low1)
+    chained (After n) (Below n) _ (chain Colon next_word tt ts) (chain_keeps Colon next_word (λ s. keeps (next_word s) (next_word_takes s)) tt n ts low) (λ r low1. low1)
 
 key_takes : PastTakes key
 unfolding key
@@ -68,7 +68,7 @@ dict_keeps : (inner : Past) → PastTakes inner → PastKeeps (dict inner)
 unfolding dict
 dict_keeps inner takes = past_form_keeps CloseCurly (entry_of_dict inner) (past_keeps (entry_of_dict inner) (entry_of_dict_takes inner takes))
 
--- a token of one of some kinds stands before others
+-- a token of one of some kinds is before others
 one_of_five : (ts : Tokens) (a b c d e : Bool) → (a ≡ true → count (rest ts) < count ts) → (b ≡ true → count (rest ts) < count ts) → (c ≡ true → count (rest ts) < count ts) → (d ≡ true → count (rest ts) < count ts) → (e ≡ true → count (rest ts) < count ts) → (a || b || c || d || e) ≡ true → count (rest ts) < count ts
 one_of_five ts true b c d e f g h i j some = f refl
 one_of_five ts false true c d e f g h i j some = g refl
@@ -96,9 +96,9 @@ value_takes (suc level) ts =
 pub value_keeps : (level : ℕ) → PastKeeps (value level)
 value_keeps level = past_keeps (value level) (value_takes level)
 
-behind_key_takes : (key : List ℕ) (line : ℕ) → PastTakes (behind_key key line)
-unfolding behind_key
-behind_key_takes key line ts =
+after_key_takes : (key : List ℕ) (line : ℕ) → PastTakes (after_key key line)
+unfolding after_key
+after_key_takes key line ts =
     chosen (Below (count ts)) _ _ (is_any left_out_keys key) (λ _. tt) (λ _.
     chained (Below (count ts)) (Below (count ts)) _ (take Equals ts) (take_takes Equals refl ts) (λ u low.
     chosen (Below (count ts)) _ _ (bytes_eq key (codes "active") && is_off u) (λ _. tt) (λ _. value_keeps 63 (count ts) u low)))
@@ -108,8 +108,8 @@ unfolding keyed
 keyed_takes ts =
     chained (Below (count ts)) (Below (count ts)) _ (take Word ts) (take_takes Word refl ts) (λ u low.
     chosen (Below (count ts)) _ _ (is_any list_ops (text ts) && is Word u)
-    (λ _. past_keeps (behind_key (text u) (line_of u)) (behind_key_takes (text u) (line_of u)) (count ts) (rest u) (rest_keeps (count ts) u low))
-    (λ _. past_keeps (behind_key (text ts) (line_of ts)) (behind_key_takes (text ts) (line_of ts)) (count ts) u low))
+    (λ _. past_keeps (after_key (text u) (line_of u)) (after_key_takes (text u) (line_of u)) (count ts) (rest u) (rest_keeps (count ts) u low))
+    (λ _. past_keeps (after_key (text ts) (line_of ts)) (after_key_takes (text ts) (line_of ts)) (count ts) u low))
 
 pub entry_takes : PastTakes entry
 unfolding entry

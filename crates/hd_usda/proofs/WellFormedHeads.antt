@@ -1,4 +1,4 @@
--- What stands before the items of a prim is well formed.
+-- What is before the items of a prim is well formed.
 use Rattle.std.proofs.Common.{◌≡◌, ℕ, ◌+◌, ◌<◌, Bool, true, false, ◌&&◌, not, ◌==◌, nat_lt, nat_le, List, [], length, bytes_eq, Ok, refl, sym}
 use Rattle.std.proofs.lemmas.Bool.{and_from, or_right, ltb-false, leb-false, le-leb}
 use Rattle.hd_path.specs.Names.{is_identifier}
@@ -7,10 +7,10 @@ use Rattle.hd_layer.specs.declared.fault.LayerWhy.TheVariants.{Syntax, Limit}
 use Rattle.hd_layer.specs.declared.limits.Which.TheVariants.{Prims, Depth, Name}
 use Rattle.hd_layer.specs.Limits.{limit_of}
 use Rattle.hd_lexer.specs.Lexing.{Tokens}
-use Rattle.hd_usda.specs.Cursors.{is, rest, text, line_of, fault_in, fault_at, take as take_token}
-use Rattle.hd_usda.specs.Metadata.{metadata}
-use Rattle.hd_usda.specs.Items.{Seen, new_name}
-use Rattle.hd_usda.specs.Prims.{prim_type, is_name, next_count, Named, prim_name, Head, head}
+use Rattle.hd_usda.specs.reading.Cursor.{is, rest, text, line_of, fault_in, fault_at, take as take_token}
+use Rattle.hd_usda.specs.grammar.Metadata.{metadata}
+use Rattle.hd_usda.specs.grammar.NameSet.{NameSet, new_name}
+use Rattle.hd_usda.specs.grammar.Prims.{prim_type, is_name, next_count, Named, prim_name, PrimHeader, prim_header}
 use Rattle.hd_layer.specs.WellFormed.{is_prim_name, is_kind}
 use Rattle.hd_usda.proofs.Answering.{ok_same, past_fault, Leaves, Whatever, on_then, on_either, on_test, on_ok, on_fault, on_any}
 use Rattle.hd_usda.proofs.WordTokens.{Worded, word_is_identifier}
@@ -37,11 +37,11 @@ count_is true line count n e =
     record { counted = λ _. (sym (ok_same room.1), leb-false (limit_of Prims) count room.0); same = λ never. absurd (cc) }
 count_is false line count n e = record { counted = λ never. absurd (cc); same = λ _. ok_same e }
 
--- the number that stands beside a name
+-- the number that is beside a name
 abbrev IsNamed : Bool → ℕ → Named × Tokens → Type 0
 IsNamed counts count n = IsCounted counts count n.0.count
 
-name_is : (room : ℕ) (counts : Bool) (count : ℕ) (names : Seen) (ts : Tokens) → Leaves (IsNamed counts count) (prim_name room counts count names ts)
+name_is : (room : ℕ) (counts : Bool) (count : ℕ) (names : NameSet) (ts : Tokens) → Leaves (IsNamed counts count) (prim_name room counts count names ts)
 unfolding prim_name is_name
 name_is room counts count names ts =
     on_test (IsNamed counts count) (not (is Text ts && is_identifier (text ts))) _ _ (λ no_name. on_fault (IsNamed counts count) (fault_at ts Syntax)) (λ named.
@@ -51,12 +51,12 @@ name_is room counts count names ts =
     on_then Whatever (IsNamed counts count) (new_name false (text ts) (line_of ts) names) _ (on_any (new_name false (text ts) (line_of ts) names)) (λ seen _.
     on_ok (IsNamed counts count) (record { name = text ts; names = seen; count = n }, rest ts) number)))))
 
--- the number among what stands before the items of a prim
-abbrev pub IsHead : Bool → ℕ → Head × Tokens → Type 0
+-- the number among what is before the items of a prim
+abbrev pub IsHead : Bool → ℕ → PrimHeader × Tokens → Type 0
 IsHead counts count h = IsCounted counts count h.0.named.count
 
-pub head_is : (room : ℕ) (counts : Bool) (count : ℕ) (names : Seen) (ts : Tokens) → Leaves (IsHead counts count) (head room counts count names ts)
-unfolding head
+pub head_is : (room : ℕ) (counts : Bool) (count : ℕ) (names : NameSet) (ts : Tokens) → Leaves (IsHead counts count) (prim_header room counts count names ts)
+unfolding prim_header
 head_is room counts count names ts =
     on_then Whatever (IsHead counts count) (prim_type ts) _ (on_any (prim_type ts)) (λ k _.
     on_then (IsNamed counts count) (IsHead counts count) (prim_name room counts count names k.1) _ (name_is room counts count names k.1) (λ n named.
@@ -64,11 +64,11 @@ head_is room counts count names ts =
     on_then Whatever (IsHead counts count) (take_token OpenCurly u) _ (on_any (take_token OpenCurly u)) (λ v _.
     on_ok (IsHead counts count) (record { kind = k.0; named = n.0 }, v) named))))
 
-abbrev pub HasType : Head × Tokens → Type 0
+abbrev pub HasType : PrimHeader × Tokens → Type 0
 HasType h = is_kind h.0.kind ≡ true
 
-pub head_type : (room : ℕ) (counts : Bool) (count : ℕ) (names : Seen) (ts : Tokens) → Worded ts → Leaves HasType (head room counts count names ts)
-unfolding head
+pub head_type : (room : ℕ) (counts : Bool) (count : ℕ) (names : NameSet) (ts : Tokens) → Worded ts → Leaves HasType (prim_header room counts count names ts)
+unfolding prim_header
 head_type room counts count names ts w =
     on_then (λ k. is_kind k.0 ≡ true) HasType (prim_type ts) _ (type_is ts w) (λ k typed.
     on_then Whatever HasType (prim_name room counts count names k.1) _ (on_any (prim_name room counts count names k.1)) (λ n _.

@@ -7,9 +7,9 @@ use Rattle.hd_lexer.specs.declared.lexer.Kind.TheVariants.{OpenSquare, CloseSqua
 use Rattle.hd_layer.specs.declared.limits.Which.TheVariants.{Elements}
 use Rattle.hd_layer.specs.Limits.{limit_of}
 use Rattle.hd_lexer.specs.Lexing.{Tokens}
-use Rattle.hd_usda.specs.Cursors.{is, rest, text, fault_at}
-use Rattle.hd_usda.specs.Numbers.{need}
-use Rattle.hd_usda.specs.Elements.{Reads, one_more, next_element, list_of}
+use Rattle.hd_usda.specs.reading.Cursor.{is, rest, text, fault_at}
+use Rattle.hd_usda.specs.used.Numbers.{need}
+use Rattle.hd_usda.specs.used.Elements.{Reads, one_more, next_element, list_of}
 use Rattle.hd_layer.specs.WellFormed.{is_list}
 use Rattle.hd_usda.proofs.Answering.{Leaves, Whatever, on_then, on_either, on_test, on_ok, on_fault, on_any, on_all}
 
@@ -39,7 +39,7 @@ pub record Checks {A : Type 0} (how : Reads A) (first other : A → Bool) : Type
   pub goes_on : (ts : Tokens) (x : A) (u : Tokens) → how.form false ts ≡ Ok (x, u) → other x ≡ true
   pub begins : (ts : Tokens) (x : A) (u : Tokens) → how.form false ts ≡ Ok (x, u) → how.begins ts ≡ true
 
--- the same with the tokens behind them
+-- the same with the tokens after them
 abbrev SoFar : {A : Type 0} → (A → Bool) → (A → Bool) → List A × Tokens → Type 0
 SoFar first other q = ElementsSoFar first other q.0
 

@@ -8,9 +8,9 @@ use Rattle.hd_layer.specs.declared.fault.LayerWhy.TheVariants.{Syntax, LeftOut, 
 use Rattle.hd_layer.specs.declared.limits.Which.TheVariants.{Depth, Name}
 use Rattle.hd_layer.specs.Limits.{limit_of}
 use Rattle.hd_lexer.specs.Lexing.{Tokens}
-use Rattle.hd_usda.specs.Cursors.{is, is_word, rest, text, line_of, fault_in, fault_at, take}
-use Rattle.hd_usda.specs.Elements.{list_of}
-use Rattle.hd_usda.specs.Targets.{is_prim_path, has_long, names_of, path_in, target, one_target, in_list, targets}
+use Rattle.hd_usda.specs.reading.Cursor.{is, is_word, rest, text, line_of, fault_in, fault_at, take}
+use Rattle.hd_usda.specs.used.Elements.{list_of}
+use Rattle.hd_usda.specs.used.Targets.{is_prim_path, has_long, names_of, path_in, target, one_target, in_list, targets}
 use Rattle.hd_layer.specs.WellFormed.{is_below_root, is_list}
 use Rattle.hd_usda.proofs.Answering.{answered, ok_same, past_fault, past_test, either}
 use Rattle.hd_usda.proofs.WellFormedLists.{Checks, list_is, are_list}

@@ -6,19 +6,19 @@ use Rattle.hd_num.specs.declared.vector.Vec3.{Vec3}
 use Rattle.hd_lexer.specs.declared.lexer.Kind.TheVariants.{Text}
 use Rattle.hd_layer.specs.declared.fault.LayerWhy.TheVariants.{LeftOut}
 use Rattle.hd_layer.specs.declared.limits.Which.TheVariants.{Elements}
-use Rattle.hd_usda.specs.declared.number_form.Demand.TheVariants.{Any, Turn}
+use Rattle.hd_usda.specs.declared.used.numbers.NumberRule.TheVariants.{Any, Turn}
 use Rattle.hd_tokens.specs.declared.properties.AttributeKind.{AttributeKind}
 use Rattle.hd_tokens.specs.declared.properties.AttributeKind.TheVariants.{Points, Numbers, Colors, ByteColors, OpOrder, Visibility, Purpose, Vector, Angle, Angles, Transform, ByteColor}
 use Rattle.hd_layer.specs.declared.spec.RawValue.{RawValue}
 use Rattle.hd_layer.specs.declared.spec.RawValue.TheVariants as raw
 use Rattle.hd_layer.specs.Limits.{limit_of}
 use Rattle.hd_lexer.specs.Lexing.{Tokens}
-use Rattle.hd_usda.specs.Cursors.{Fault, is, is_word, text, fault_at}
+use Rattle.hd_usda.specs.reading.Cursor.{Fault, is, is_word, text, fault_at}
 use Rattle.hd_tokens.specs.Names.{is_any}
 use Rattle.hd_tokens.specs.Properties.{visibilities, purposes, is_op_entry}
-use Rattle.hd_usda.specs.Numbers.{need, number, triple}
-use Rattle.hd_usda.specs.Elements.{list_of}
-use Rattle.hd_usda.specs.UsedValues.{numbers, triples, op_entry, op_entries, one_of, rows, single, whole, value_of, used_value}
+use Rattle.hd_usda.specs.used.Numbers.{need, number, triple}
+use Rattle.hd_usda.specs.used.Elements.{list_of}
+use Rattle.hd_usda.specs.used.Values.{numbers, triples, op_entry, op_entries, one_of, rows, single, whole, value_of, used_value}
 use Rattle.hd_layer.specs.WellFormed.{is_small, is_quarters, each_of, is_list, is_single, are_op_entries, are_small_rows, has_form}
 use Rattle.hd_usda.proofs.Answering.{answered, ok_same, past_fault, past_test}
 use Rattle.hd_usda.proofs.WellFormedNumbers.{needed, number_begins, number_small, number_quarters, triple_begins, triple_each, rows_are}

@@ -4,11 +4,14 @@ use Rattle.hd_lexer.specs.declared.lexer.Kind.{Kind}
 use Rattle.hd_lexer.specs.declared.lexer.Kind.TheVariants.{Equals}
 use Rattle.hd_layer.specs.declared.spec.Property.{Property}
 use Rattle.hd_lexer.specs.Lexing.{Tokens}
-use Rattle.hd_usda.specs.Cursors.{◌>>=◌, Fault, Past, Form, is, is_word, rest, count}
-use Rattle.hd_usda.specs.Loops.{past, past_by, all, all_by, chain, chain_by}
-use Rattle.hd_usda.specs.Items.{list_op, past_modifiers, own_type, pname, property}
-use Rattle.hd_usda.specs.Prims.{Found, PrimForm, empty_body, inside_new, item}
-use Rattle.hd_usda.specs.Statements.{ends}
+use Rattle.hd_usda.specs.reading.Cursor.{◌>>=◌, Fault, Past, Form, is, is_word, rest, count}
+use Rattle.hd_usda.specs.reading.Loops.{past, past_by, all, all_by, chain, chain_by}
+use Rattle.hd_usda.specs.grammar.Header.{list_op, past_modifiers, own_type, pname}
+use Rattle.hd_usda.specs.declared.grammar.rule.PropertyRule.TheVariants.{Used}
+use Rattle.hd_usda.specs.grammar.Property.{property}
+use Rattle.hd_usda.specs.grammar.Kept.{no_properties}
+use Rattle.hd_usda.specs.grammar.Prims.{LayerBuilder, PrimForm, new_scope, item}
+use Rattle.hd_usda.specs.Statement.{ends}
 
 -- form* close is the closing token, or one form and form* close again, and each bound beyond the tokens that are left gives the same
 pub record PastRepeats (close : Kind) (form : Past) : Type 0 where
@@ -26,9 +29,9 @@ pub record ChainRepeats {S : Type 0} (separator : Kind) (form : S → Form S) : 
   pub any_bound : (n : ℕ) (s : S) (ts : Tokens) → count ts < n → chain_by separator form n s ts ≡ chain separator form s ts
 
 -- the values of a prim that has these tokens alone, where they are one item
-unfoldable pub item_values : PrimForm → Found → Tokens → Result (List Property) Fault
-item_values prim found ts = do
-  r ← item prim true (inside_new found) ts
+unfoldable pub item_values : PrimForm → LayerBuilder → Tokens → Result (List Property) Fault
+item_values prim builder ts = do
+  r ← item prim true (new_scope builder) ts
   u ← ends r.1
   Ok r.0.body.values
 
@@ -56,7 +59,7 @@ has_equals ts = begins_with_equals (after_property_name ts)
 -- the values of a prim that has these tokens alone, where they are one property
 unfoldable pub property_values : Tokens → Result (List Property) Fault
 property_values ts = do
-  b ← property true empty_body ts
+  b ← property Used no_properties ts
   u ← ends b.1
   Ok b.0.values
 

@@ -2,17 +2,18 @@
 
 ghost use Rattle.std.specs.Prelude.{◌≡◌, ℕ, List, Bool, Option, Ok, IsTrue};
 ghost use Rattle.hd_lexer.specs.declared.lexer.Kind.TheVariants.{CloseRound, CloseSquare, CloseCurly, Colon, End};
-ghost use Rattle.hd_usda.specs.Values as values;
-ghost use Rattle.hd_usda.specs.Metadata.{entry};
-ghost use Rattle.hd_usda.specs.Elements.{next_element};
-ghost use Rattle.hd_usda.specs.Targets.{in_list};
-ghost use Rattle.hd_usda.specs.UsedValues.{numbers, triples, op_entries};
-ghost use Rattle.hd_usda.specs.Items as items;
-ghost use Rattle.hd_usda.specs.Prims.{Found, PrimForm, item, prim, root_item};
+ghost use Rattle.hd_usda.specs.grammar.Value as values;
+ghost use Rattle.hd_usda.specs.grammar.Metadata.{entry};
+ghost use Rattle.hd_usda.specs.used.Elements.{next_element};
+ghost use Rattle.hd_usda.specs.used.Targets.{in_list};
+ghost use Rattle.hd_usda.specs.used.Values.{numbers, triples, op_entries};
+ghost use Rattle.hd_usda.specs.grammar.Header as header;
+ghost use Rattle.hd_usda.specs.grammar.Attribute.{next_sample};
+ghost use Rattle.hd_usda.specs.grammar.Prims.{LayerBuilder, PrimForm, item, prim, root_item};
 ghost use Rattle.hd_path.specs.Paths.{Path};
 ghost use Rattle.hd_lexer.specs.Lexing.{tokens_from};
 ghost use Rattle.hd_layer.specs.declared.spec.Property.{Property};
-ghost use Rattle.hd_usda.specs.Statements.{on_one_line, reads_property};
+ghost use Rattle.hd_usda.specs.Statement.{on_one_line, reads_property};
 ghost use Rattle.hd_usda.specs.Laws.{PastRepeats, AllRepeats, ChainRepeats, item_values, values_of, has_equals, property_values, as_values};
 
 /// Wherever the profile repeats a form, the repetition is that of its grammar: the number of rounds that bounds its
@@ -27,8 +28,8 @@ pub fn repetition_never_runs_out()
     ensures triples { AllRepeats CloseSquare (next_element triples) }
     ensures op_entries { AllRepeats CloseSquare (next_element op_entries) }
     ensures targets { AllRepeats CloseSquare (next_element in_list) }
-    ensures name_words { ChainRepeats Colon items.next_word }
-    ensures samples { PastRepeats CloseCurly items.next_sample }
+    ensures name_words { ChainRepeats Colon header.next_word }
+    ensures samples { PastRepeats CloseCurly next_sample }
     ensures items { (room : ℕ) (path : Path) (counts : Bool) → AllRepeats CloseCurly (item (prim room path) counts) }
     ensures prims { AllRepeats End root_item }
 {}
@@ -37,7 +38,7 @@ pub fn repetition_never_runs_out()
 /// is one item of a prim, and the prim has that property and no other; where the property is not used, the prim has
 /// none.
 pub fn property_of_script_is_item()
-    ensures { (text : List ℕ) (property : Option Property) → reads_property text ≡ Ok property → (form : PrimForm) (found : Found) → item_values form found (tokens_from 1 text) ≡ Ok (values_of property) }
+    ensures { (text : List ℕ) (property : Option Property) → reads_property text ≡ Ok property → (form : PrimForm) (builder : LayerBuilder) → item_values form builder (tokens_from 1 text) ≡ Ok (values_of property) }
 {}
 
 /// A script and a prim have one grammar of properties, but that a script needs a value: what a script spells has `=`

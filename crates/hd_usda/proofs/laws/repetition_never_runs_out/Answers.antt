@@ -1,14 +1,15 @@
 use Rattle.hd_lexer.specs.declared.lexer.Kind.TheVariants.{CloseRound, CloseSquare, CloseCurly, Colon, End}
-use Rattle.hd_usda.specs.Values as values
-use Rattle.hd_usda.specs.Metadata.{entry}
-use Rattle.hd_usda.specs.Elements.{next_element}
-use Rattle.hd_usda.specs.Targets.{in_list}
-use Rattle.hd_usda.specs.UsedValues.{numbers, triples, op_entries}
+use Rattle.hd_usda.specs.grammar.Value as values
+use Rattle.hd_usda.specs.grammar.Metadata.{entry}
+use Rattle.hd_usda.specs.used.Elements.{next_element}
+use Rattle.hd_usda.specs.used.Targets.{in_list}
+use Rattle.hd_usda.specs.used.Values.{numbers, triples, op_entries}
 use Rattle.hd_usda.proofs.TakesRepeat.{past_repeats, all_repeats, chain_repeats}
 use Rattle.hd_usda.proofs.TakesValues.{next_word_takes, value_takes, next_of_tuple_takes, next_of_list_takes, entry_of_dict_takes, entry_takes}
 use Rattle.hd_usda.proofs.TakesUsed.{next_number_takes, next_triple_takes, next_op_entry_takes, next_target_takes}
-use Rattle.hd_usda.specs.Items as items
-use Rattle.hd_usda.specs.Prims.{item, prim, root_item}
+use Rattle.hd_usda.specs.grammar.Header as header
+use Rattle.hd_usda.specs.grammar.Attribute.{next_sample}
+use Rattle.hd_usda.specs.grammar.Prims.{item, prim, root_item}
 use Rattle.hd_usda.proofs.TakesItems.{next_word_takes as next_name_word_takes, next_sample_takes}
 use Rattle.hd_usda.proofs.TakesPrims.{item_takes, prim_keeps, root_item_takes}
 use Rattle.hd_usda.proofs.laws.repetition_never_runs_out.Goals as goal
@@ -41,10 +42,10 @@ pub returns-clause-targets : goal.returns-clause-targets
 returns-clause-targets c = all_repeats CloseSquare (next_element in_list) next_target_takes
 
 pub returns-clause-name_words : goal.returns-clause-name_words
-returns-clause-name_words c = chain_repeats Colon items.next_word next_name_word_takes
+returns-clause-name_words c = chain_repeats Colon header.next_word next_name_word_takes
 
 pub returns-clause-samples : goal.returns-clause-samples
-returns-clause-samples c = past_repeats CloseCurly items.next_sample next_sample_takes
+returns-clause-samples c = past_repeats CloseCurly next_sample next_sample_takes
 
 pub returns-clause-items : goal.returns-clause-items
 returns-clause-items c room path counts = all_repeats CloseCurly (item (prim room path) counts) (item_takes (prim room path) (prim_keeps room path) counts)

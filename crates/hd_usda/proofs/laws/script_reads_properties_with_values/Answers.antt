@@ -1,4 +1,4 @@
-use Rattle.hd_usda.proofs.ScriptValues.{script_has_value, script_is_property}
+use Rattle.hd_usda.proofs.ScriptItems.{script_has_value, script_is_property}
 use Rattle.hd_usda.proofs.laws.script_reads_properties_with_values.Goals as goal
 
 pub returns-clause-has_value : goal.returns-clause-has_value

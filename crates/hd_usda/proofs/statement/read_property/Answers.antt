@@ -1,4 +1,4 @@
-use Rattle.hd_usda.proofs.WellFormedProperties.{statement_reads}
+use Rattle.hd_usda.proofs.ScriptItems.{statement_reads}
 use Rattle.hd_usda.proofs.statement.read_property.Goals as goal
 
 pub returns-in-Ok-clause-well_formed : goal.returns-in-Ok-clause-well_formed

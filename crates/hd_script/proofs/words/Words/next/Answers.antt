@@ -14,4 +14,4 @@ returns-clause-some c =
     let some : 0 < length c.from_word-rest.result.now = grind (arith, common_steps) in
     let line = c.self.inside.rest.now in
     let word = c.word_at-word.ensures ∙ ap word_at c.from_word-rest.ensures in
-    sym c.self.view_is ∙ next_word line (omega (arith, some, ap length c.from_word-rest.ensures)) ∙ sym (ap (λ (w : Word). w ∷ words w.behind) word)
+    sym c.self.view_is ∙ next_word line (omega (arith, some, ap length c.from_word-rest.ensures)) ∙ sym (ap (λ (w : Word). w ∷ words w.after) word)

@@ -1,0 +1,2 @@
+pub mod DecimalViews
+pub mod Scanned

@@ -1,0 +1,9 @@
+pub mod Value
+pub mod Metadata
+pub mod NameSet
+pub mod Header
+pub mod Kept
+pub mod Rule
+pub mod Attribute
+pub mod Property
+pub mod Prims

@@ -1,0 +1,2 @@
+pub mod PropertyViews
+pub mod PrimViews

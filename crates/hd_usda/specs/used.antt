@@ -1,0 +1,4 @@
+pub mod Numbers
+pub mod Elements
+pub mod Targets
+pub mod Values

@@ -1,0 +1,5 @@
+//! Reading tokens from left to right.
+
+pub mod cursor;
+pub mod text;
+pub mod words;
