@@ -6,27 +6,28 @@ use Rattle.std.specs.Cmp.Lexicographic.{slice_cmp}
 use Rattle.std.specs.Ordering.{nat_cmp}
 use Rattle.std.proofs.lemmas.Cmp.{eq_by_cmp_equiv}
 use Rattle.std.specs.FinMap.{get, empty, insert, retain_keys, get-empty, get-insert, get-retain_keys, same_map}
-use Rattle.hd_path.specs.Comparing.{names_same, names_ties}
+use Rattle.hd_path.specs.inner.Comparing.{names_same, names_ties}
 use Rattle.hd_value.specs.declared.value.Value.{Value}
 use Rattle.hd_value.specs.declared.value.Value.TheVariants.{Token, Tokens, Ints, Vecs, Color, Colors, Paths, Op, Matrix, Out, Flag}
-use Rattle.hd_value.specs.Falls.{locators_total, locators_tie}
-use Rattle.hd_value.specs.Locators.{is_same, is_prefix}
+use Rattle.hd_value.specs.inner.Falls.{locators_total, locators_tie}
+use Rattle.hd_path.specs.Names.{is_same}
+use Rattle.hd_path.specs.Paths.{is_prefix}
+use Rattle.hd_path.proofs.NamePrefixes.{same_text, and_true, or_false}
 use Rattle.hd_value.specs.Maps.{Map}
 use Rattle.hd_value.specs.Schema.{Row, allows, passed_rows, flattened_away_rows, instanced_by_row, reset_row, is_named_op, is_authored, is_instanced, IsInstanced}
-use Rattle.hd_value.proofs.Prefixes.{same_text, and_true, or_false}
 use Rattle.hd_value.proofs.Getting.{eqk}
 use Rattle.hd_value.proofs.Setting.{get-set_at}
-use Rattle.hd_tokens.specs.Locators.{op_at, matrix_at, visibility_at, purpose_at, binding_at, color_at}
+use Rattle.hd_tokens.specs.Locators.{Locator, op_at, matrix_at, visibility_at, purpose_at, binding_at, color_at}
 use Rattle.hd_flattening.specs.Flat.{flat_matrix, is_visible, flat_purpose, flat_binding, flat_colors}
 use Rattle.hd_flattening.specs.Flattened.{passes, matrix_value, with_binding, flat_values}
-use Rattle.hd_flattening.specs.FlatLocators.{flat_locators, passed_locators, is_among, IsWithin, with_value, with_passed, with_all_passed, binding_value}
+use Rattle.hd_flattening.specs.inner.FlatLocators.{flat_locators, passed_locators, is_among, IsWithin, with_value, with_passed, with_all_passed, binding_value}
 use Rattle.hd_flattening.proofs.Placing.{same, true_is_not, some_is_not, each_among, locators_apart}
 
 -- what passes of a prim's own
 abbrev pub passed_at : Map → List (List ℕ) → Option Value
 passed_at prim q = cond (passes q) (get prim q) None
 
--- what stands at a locator of a flat prim, but for the binding
+-- what is at a locator of a flat prim, but for the binding
 abbrev pub unbound_at : Map → List Map → List (List ℕ) → Option Value
 unbound_at prim above q =
     cond (eqk q color_at) (Some (Colors (flat_colors (prim ∷ above))))
@@ -35,11 +36,11 @@ unbound_at prim above q =
     (cond (eqk q matrix_at) (Some (matrix_value (flat_matrix (prim ∷ above))))
     (passed_at prim q))))
 
-get-with_binding : (m : Map) (o : Option (List (List ℕ))) (q : List (List ℕ)) → get (with_binding m o) q ≡ cond (eqk q binding_at) (option_or (binding_value o) (get m q)) (get m q)
+get-with_binding : (m : Map) (o : Option (List (List ℕ))) (q : Locator) → get (with_binding m o) q ≡ cond (eqk q binding_at) (option_or (binding_value o) (get m q)) (get m q)
 get-with_binding m None q = elim (eqk q binding_at) as (λ b. get m q ≡ cond b (get m q) (get m q)) [ true ↦ refl | false ↦ refl ]
 get-with_binding m (Some p) q = get-insert locators_total m binding_at (Paths (p ∷ [])) q
 
-pub get-flat_values : (prim : Map) (above : List Map) (q : List (List ℕ)) → get (flat_values prim above) q ≡ cond (eqk q binding_at) (option_or (binding_value (flat_binding (prim ∷ above))) (unbound_at prim above q)) (unbound_at prim above q)
+pub get-flat_values : (prim : Map) (above : List Map) (q : Locator) → get (flat_values prim above) q ≡ cond (eqk q binding_at) (option_or (binding_value (flat_binding (prim ∷ above))) (unbound_at prim above q)) (unbound_at prim above q)
 unfolding flat_values
 get-flat_values prim above q =
     let matrix : Value = matrix_value (flat_matrix (prim ∷ above)) in
@@ -60,7 +61,7 @@ get-flat_values prim above q =
     ∙ ap (λ (o : Option Value). cond (eqk q binding_at) (option_or (binding_value (flat_binding (prim ∷ above))) o) o) e4
 
 -- two locators that begin with each other are one
-both_prefixes : (a b : List (List ℕ)) → is_prefix a b ≡ true → is_prefix b a ≡ true → b ≡ a
+both_prefixes : (a b : Locator) → is_prefix a b ≡ true → is_prefix b a ≡ true → b ≡ a
 both_prefixes [] [] e f = refl
 both_prefixes [] (y ∷ b) e f = true_is_not (sym f)
 both_prefixes (x ∷ a) [] e f = true_is_not (sym e)
@@ -70,7 +71,7 @@ both_prefixes (x ∷ a) (y ∷ b) e f =
     ap (λ w. w ∷ b) (sym (same_text x y front.0)) ∙ ap (λ t. x ∷ t) (both_prefixes a b front.1 back.1)
 
 -- what holds of the locator of each row holds where a row allows a value
-pub row_of_value : (test : List (List ℕ) → Bool) (rows : List Row) (q : List (List ℕ)) (v : Value) → list_all (λ (row : Row). test row.0) rows ≡ true → allows rows q v ≡ true → test q ≡ true
+pub row_of_value : (test : List (List ℕ) → Bool) (rows : List Row) (q : Locator) (v : Value) → list_all (λ (row : Row). test row.0) rows ≡ true → allows rows q v ≡ true → test q ≡ true
 row_of_value test [] q v all e = true_is_not (sym e)
 row_of_value test (row ∷ rows) q v all e =
     let both = and_true (test row.0) (list_all (λ (r : Row). test r.0) rows) all in
@@ -82,12 +83,12 @@ row_of_value test (row ∷ rows) q v all e =
       | false ↦ λ _ later. row_of_value test rows q v both.1 later
     ] refl e
 
--- where a value passes, it stands at a place
+-- where a value passes, it is at a place
 abbrev pub is_placed : List (List ℕ) → Bool
 is_placed q = not (passes q) || is_among flat_locators q
 
--- an op stands below `xform`, and does not pass
-pub op_apart : (q : List (List ℕ)) (v : Value) → is_named_op q v ≡ true → not (passes q) ≡ true
+-- an op is below `xform`, and does not pass
+pub op_apart : (q : Locator) (v : Value) → is_named_op q v ≡ true → not (passes q) ≡ true
 op_apart (a ∷ b ∷ name ∷ []) (Op op) e =
     let both = and_true (is_prefix (op_at name) (a ∷ b ∷ name ∷ [])) _ e in
     let first = and_true (is_same (codes "xform") a) _ both.0 in
@@ -108,10 +109,10 @@ op_apart (a ∷ []) v e = true_is_not (sym e)
 op_apart (a ∷ b ∷ []) v e = true_is_not (sym e)
 op_apart (a ∷ b ∷ name ∷ more ∷ rest) v e = true_is_not (sym e)
 
-op_placed : (q : List (List ℕ)) (v : Value) → is_named_op q v ≡ true → is_placed q ≡ true
+op_placed : (q : Locator) (v : Value) → is_named_op q v ≡ true → is_placed q ≡ true
 op_placed q v e = ap (λ b. b || is_among flat_locators q) (op_apart q v e)
 
-pub instanced_placed : (q : List (List ℕ)) (v : Value) → is_instanced q v ≡ true → is_placed q ≡ true
+pub instanced_placed : (q : Locator) (v : Value) → is_instanced q v ≡ true → is_placed q ≡ true
 instanced_placed q v e = either (is_authored q v) (allows (instanced_by_row ∷ reset_row ∷ []) q v) (is_placed q)
     (either (allows passed_rows q v || allows flattened_away_rows q v) (is_named_op q v) (is_placed q)
     (either (allows passed_rows q v) (allows flattened_away_rows q v) (is_placed q) (row_of_value is_placed passed_rows q v refl) (row_of_value is_placed flattened_away_rows q v refl))
@@ -123,7 +124,7 @@ instanced_placed q v e = either (is_authored q v) (allows (instanced_by_row ∷ 
     either true b c f g h = f refl
     either false b c f g h = g h
 
--- each value of a flat prim stands at a place
+-- each value of a flat prim is at a place
 pub flat_within : (prim : Map) (above : List Map) → IsInstanced prim → IsWithin flat_locators (flat_values prim above)
 flat_within prim above fits q some =
     elim (is_among flat_locators q) as (λ b. is_among flat_locators q ≡ b → b ≡ true) [
@@ -165,7 +166,7 @@ flat_within prim above fits q some =
 
 -- the map answers as another one does at the places seen, and nothing elsewhere
 pub record Holds (whole : Map) (seen : List (List (List ℕ))) (m : Map) : Type 0 where
-  pub answers : (q : List (List ℕ)) → get m q ≡ cond (is_among seen q) (get whole q) None
+  pub answers : (q : Locator) → get m q ≡ cond (is_among seen q) (get whole q) None
 
 pub none_held : (whole : Map) → Holds whole [] empty
 none_held whole = record { answers = get-empty (slice_cmp (slice_cmp nat_cmp)) }
@@ -174,11 +175,11 @@ nothing : (b : Bool) → ◌≡◌ {A = Option Value} (cond b None None) None
 nothing true = refl
 nothing false = refl
 
-same_itself : (a : List (List ℕ)) → same a a ≡ true
+same_itself : (a : Locator) → same a a ≡ true
 same_itself a = names_ties a a ∙ (eq_by_cmp_equiv locators_total).refl a
 
--- nothing stands below a place
-nothing_below : (whole : Map) (at q : List (List ℕ)) → IsWithin flat_locators whole → is_among flat_locators at ≡ true → is_prefix at q ≡ true → same q at ≡ false → get whole q ≡ None
+-- nothing is below a place
+nothing_below : (whole : Map) (at q : Locator) → IsWithin flat_locators whole → is_among flat_locators at ≡ true → is_prefix at q ≡ true → same q at ≡ false → get whole q ≡ None
 nothing_below whole at q stands among below elsewhere =
     elim (get whole q) as (λ o. get whole q ≡ o → o ≡ None) [
       | None ↦ λ _. refl
@@ -188,7 +189,7 @@ nothing_below whole at q stands among below elsewhere =
     ] refl
 
 -- one more value of the whole
-pub held_more : (whole : Map) {seen : List (List (List ℕ))} {m : Map} → Holds whole seen m → (at : List (List ℕ)) (o : Option Value) → IsWithin flat_locators whole → is_among flat_locators at ≡ true → get whole at ≡ o → Holds whole (at ∷ seen) (with_value m at o)
+pub held_more : (whole : Map) {seen : List (List (List ℕ))} {m : Map} → Holds whole seen m → (at : Locator) (o : Option Value) → IsWithin flat_locators whole → is_among flat_locators at ≡ true → get whole at ≡ o → Holds whole (at ∷ seen) (with_value m at o)
 held_more whole {seen} {m} held at None stands among is = record {
   answers = λ q. elim (same q at) as (λ b. same q at ≡ b → get m q ≡ cond (b || is_among seen q) (get whole q) None) [
     | true ↦ λ here.
@@ -228,10 +229,10 @@ all_held whole {seen} {m} held stands all = same_map locators_total locators_tie
     ] refl)
 
 -- one value more, in a map that is another one
-pub put_more : {m n k : Map} (at : List (List ℕ)) {o p : Option Value} → k ≡ with_value n at o → n ≡ m → o ≡ p → k ≡ with_value m at p
+pub put_more : {m n k : Map} (at : Locator) {o p : Option Value} → k ≡ with_value n at o → n ≡ m → o ≡ p → k ≡ with_value m at p
 put_more {m} at {o} put is valued = put ∙ ap (λ (n : Map). with_value n at o) is ∙ ap (with_value m at) valued
 
--- nothing stands in the empty map
+-- nothing is in the empty map
 pub empty_within : (m : Map) → m ≡ empty → IsWithin flat_locators m
 empty_within m is q some = absurd (some (ap (λ (n : Map). get n q) is ∙ get-empty (slice_cmp (slice_cmp nat_cmp)) q))
 
@@ -243,7 +244,7 @@ pub built : (prim : Map) (above : List Map) → IsInstanced prim →
 built prim above fits =
     let whole : Map = flat_values prim above in
     let stands : IsWithin flat_locators whole = flat_within prim above fits in
-    let at : (q : List (List ℕ)) → get whole q ≡ cond (eqk q binding_at) (option_or (binding_value (flat_binding (prim ∷ above))) (unbound_at prim above q)) (unbound_at prim above q) = get-flat_values prim above in
+    let at : (q : Locator) → get whole q ≡ cond (eqk q binding_at) (option_or (binding_value (flat_binding (prim ∷ above))) (unbound_at prim above q)) (unbound_at prim above q) = get-flat_values prim above in
     let h0 = none_held whole in
     let h1 = held_more whole h0 matrix_at (Some (matrix_value (flat_matrix (prim ∷ above)))) stands refl (at matrix_at) in
     let h2 = held_more whole h1 visibility_at (Some (Flag (is_visible (prim ∷ above)))) stands refl (at visibility_at) in

@@ -1,36 +1,22 @@
--- Scenes and containers that conform to a schema.
+-- Containers that conform to a schema.
 use Rattle.std.proofs.Common.{◌≡◌, ℕ, Bool, true, false, not, cond, List, Some, None, Result, Ok, Err, OnOk, OnErr, refl, ap, sym, subst, ◌∙◌}
 use Rattle.std.specs.Cmp.Lexicographic.{slice_cmp}
-use Rattle.std.specs.Ordering.{nat_cmp, eq_by_cmp}
-use Rattle.std.specs.FinMap.{get, empty, insert, get-empty, get-insert}
+use Rattle.std.specs.Ordering.{nat_cmp}
+use Rattle.std.specs.FinMap.{get, empty, get-empty}
 use Rattle.hd_value.specs.declared.value.Value.{Value}
-use Rattle.hd_value.specs.Locators.{is_prefix}
 use Rattle.hd_value.specs.Maps.{Map, set_at}
 use Rattle.hd_value.specs.Schema.{Conforms}
 use Rattle.hd_value.proofs.Getting.{eqk, eqk_same}
 use Rattle.hd_value.proofs.Setting.{get-set_at}
-use Rattle.hd_path.specs.Paths.{path_cmp}
-use Rattle.hd_scene.specs.Scenes.{Scene, SceneConforms}
-use Rattle.hd_scene.specs.declared.prims.Entry.{Entry}
-use Rattle.hd_scene.proofs.Children.{path_cmp_total}
+use Rattle.hd_path.specs.Paths.{is_prefix}
 use Rattle.hd_flattening.proofs.Placing.{some_is_not}
+use Rattle.hd_tokens.specs.Locators.{Locator}
 
--- a scene without prims conforms, and so does one with one prim more that conforms
-pub empty_scene_conforms : (may : List (List ℕ) → Value → Bool) (scene : Scene) → scene ≡ empty → SceneConforms may scene
-empty_scene_conforms may scene is path e there = some_is_not e (sym there ∙ ap (λ (s : Scene). get s path) is ∙ get-empty path_cmp path)
-
-pub insert_conforms : (may : List (List ℕ) → Value → Bool) (scene : Scene) (at : List (List ℕ)) (e : Entry) → SceneConforms may scene → Conforms may e.values → SceneConforms may (insert scene at e)
-insert_conforms may scene at e conforms fits path f there =
-    elim (eq_by_cmp path_cmp path at) as (λ b. cond b (Some e) (get scene path) ≡ Some f → Conforms may f.values) [
-      | true ↦ λ is. let one : e ≡ f = cc in subst (λ (d : Entry). Conforms may d.values) one fits
-      | false ↦ λ is. conforms path f is
-    ] (sym (get-insert path_cmp_total scene at e path) ∙ there)
-
--- the same of containers and values
+-- the container without values conforms, and so does one with one value more that may be there
 pub empty_conforms : (may : List (List ℕ) → Value → Bool) (m : Map) → m ≡ empty → Conforms may m
 empty_conforms may m is at v there = some_is_not v (sym there ∙ ap (λ (n : Map). get n at) is ∙ get-empty (slice_cmp (slice_cmp nat_cmp)) at)
 
-pub set_conforms : (may : List (List ℕ) → Value → Bool) (m : Map) (at : List (List ℕ)) (v : Value) → Conforms may m → may at v ≡ true → Conforms may (set_at m at v)
+pub set_conforms : (may : List (List ℕ) → Value → Bool) (m : Map) (at : Locator) (v : Value) → Conforms may m → may at v ≡ true → Conforms may (set_at m at v)
 set_conforms may m at v fits stands q w there =
     elim (eqk q at) as (λ b. eqk q at ≡ b → cond b (Some v) (cond (not (is_prefix at q)) (get m q) None) ≡ Some w → may q w ≡ true) [
       | true ↦ λ here is. let one : v ≡ w = cc in ap (λ (k : List (List ℕ)). may k w) (eqk_same q at here) ∙ ap (may at) (sym one) ∙ stands
@@ -40,7 +26,7 @@ set_conforms may m at v fits stands q w there =
       ]
     ] refl (sym (get-set_at m at v q) ∙ there)
 
-pub put_conforms : {E : Type 0} (may : List (List ℕ) → Value → Bool) (r : Result (Unit {0}) E) (old new : Map) (at : List (List ℕ)) (v : Value) → Conforms may old → may at v ≡ true
+pub put_conforms : {E : Type 0} (may : List (List ℕ) → Value → Bool) (r : Result (Unit {0}) E) (old new : Map) (at : Locator) (v : Value) → Conforms may old → may at v ≡ true
     → OnOk r (new ≡ set_at old at v) → OnErr r (new ≡ old) → Conforms may new
 put_conforms may (Ok u) old new at v fits stands put kept = subst (Conforms may) (sym put) (set_conforms may old at v fits stands)
 put_conforms may (Err e) old new at v fits stands put kept = subst (Conforms may) (sym kept) fits

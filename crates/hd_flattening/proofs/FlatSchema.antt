@@ -7,18 +7,18 @@ use Rattle.hd_num.specs.Matrices.{Rows}
 use Rattle.hd_tokens.specs.Properties.{purposes}
 use Rattle.hd_value.specs.declared.value.Value.{Value}
 use Rattle.hd_value.specs.declared.value.Value.TheVariants.{Token, Tokens, Ints, Vecs, Color, Colors, Paths, Op, Matrix, Out, Flag}
-use Rattle.hd_value.specs.Locators.{is_prefix}
+use Rattle.hd_path.specs.Paths.{Path, is_prefix}
 use Rattle.hd_value.specs.Maps.{Map}
 use Rattle.hd_value.specs.Schema.{allows, passed_rows, flattened_away_rows, instanced_by_row, reset_row, flattened_rows, is_named_op, is_authored, is_instanced, is_flattened, is_word_of, Conforms, IsInstanced}
 use Rattle.hd_value.proofs.Getting.{eqk, eqk_same}
 use Rattle.hd_scene.specs.Scenes.{Scene, SceneConforms}
 use Rattle.hd_scene.specs.declared.prims.Entry.{Entry}
-use Rattle.hd_tokens.specs.Locators.{matrix_at, visibility_at, purpose_at, binding_at, color_at}
+use Rattle.hd_tokens.specs.Locators.{Locator, matrix_at, visibility_at, purpose_at, binding_at, color_at}
 use Rattle.hd_flattening.specs.Values.{token_of}
 use Rattle.hd_flattening.specs.Flat.{values_at, values_up, ancestors, nearest, authored_purpose, flat_matrix, is_visible, flat_purpose, flat_binding, flat_colors}
 use Rattle.hd_flattening.specs.Flattened.{passes, matrix_value, flat_entry, flat_values}
 use Rattle.hd_flattening.specs.Laws.{FlattenedConforms}
-use Rattle.hd_flattening.specs.FlatLocators.{binding_value}
+use Rattle.hd_flattening.specs.inner.FlatLocators.{binding_value}
 use Rattle.hd_flattening.specs.Scenes.{get-flattened}
 use Rattle.hd_flattening.proofs.Placing.{true_is_not, some_is_not}
 use Rattle.hd_flattening.proofs.Building.{unbound_at, get-flat_values, row_of_value, op_apart}
@@ -53,8 +53,8 @@ purpose_word (prim ∷ above) others =
       | Some t ↦ λ is. authored_word (get prim purpose_at) (λ v e. others.0 purpose_at v e) t is
     ] refl
 
--- what passes of an instanced prim may stand in a flat one
-passed_flat : (q : List (List ℕ)) (v : Value) → passes q ≡ true → is_instanced q v ≡ true → is_flattened q v ≡ true
+-- what passes of an instanced prim may be in a flat one
+passed_flat : (q : Locator) (v : Value) → passes q ≡ true → is_instanced q v ≡ true → is_flattened q v ≡ true
 passed_flat q v passing e = either (is_authored q v) (allows (instanced_by_row ∷ reset_row ∷ []) q v) (is_flattened q v)
     (either (allows passed_rows q v || allows flattened_away_rows q v) (is_named_op q v) (is_flattened q v)
     (either (allows passed_rows q v) (allows flattened_away_rows q v) (is_flattened q v)
@@ -87,14 +87,14 @@ matrix_flat None = refl
 matrix_flat (Some rows) = refl
 
 -- a choice by whether two locators are one
-chosen : {P : Type 0} (q at : List (List ℕ)) (a b : Option Value) (v : Value) → cond (eqk q at) a b ≡ Some v → (q ≡ at → a ≡ Some v → P) → (b ≡ Some v → P) → P
+chosen : {P : Type 0} (q at : Locator) (a b : Option Value) (v : Value) → cond (eqk q at) a b ≡ Some v → (q ≡ at → a ≡ Some v → P) → (b ≡ Some v → P) → P
 chosen {P} q at a b v e here elsewhere =
     elim (eqk q at) as (λ t. eqk q at ≡ t → cond t a b ≡ Some v → P) [
       | true ↦ λ same is. here (eqk_same q at same) is
       | false ↦ λ _ is. elsewhere is
     ] refl e
 
-stands_flat : (at : List (List ℕ)) (value : Value) (q : List (List ℕ)) (v : Value) → is_flattened at value ≡ true → q ≡ at → Some value ≡ Some v → is_flattened q v ≡ true
+stands_flat : (at : Locator) (value : Value) (q : Locator) (v : Value) → is_flattened at value ≡ true → q ≡ at → Some value ≡ Some v → is_flattened q v ≡ true
 stands_flat at value q v flat same is =
     let one : value ≡ v = cc in
     ap (λ (k : List (List ℕ)). is_flattened k v) same ∙ ap (is_flattened at) (sym one) ∙ flat
@@ -123,14 +123,14 @@ flat_conforms prim above fits others q v there =
     bound None same is = some_is_not v (sym is ∙ ap (unbound_at prim above) same)
     bound (Some p) same is = stands_flat binding_at (Paths (p ∷ [])) q v refl same is
 
-values_conform : (scene : Scene) (path : List (List ℕ)) → SceneConforms is_instanced scene → IsInstanced (values_at scene path)
+values_conform : (scene : Scene) (path : Path) → SceneConforms is_instanced scene → IsInstanced (values_at scene path)
 values_conform scene path conforms =
     elim (get scene path) as (λ o. get scene path ≡ o → IsInstanced (option_map_or (λ (e : Entry). e.values) o empty)) [
       | None ↦ λ _. empty_conforms is_instanced empty refl
       | Some e ↦ λ there. conforms path e there
     ] refl
 
-up_conforms : (scene : Scene) (path : List (List ℕ)) (n : ℕ) → SceneConforms is_instanced scene → EachInstanced (values_up scene path n)
+up_conforms : (scene : Scene) (path : Path) (n : ℕ) → SceneConforms is_instanced scene → EachInstanced (values_up scene path n)
 up_conforms scene path zero conforms = tt
 up_conforms scene path (suc n) conforms = (values_conform scene (take (suc n) path) conforms, up_conforms scene path n conforms)
 

@@ -6,25 +6,26 @@ use Rattle.std.specs.List.{list_all}
 use Rattle.std.specs.Option.{option_map_or, option_or, option_and_then}
 use Rattle.hd_num.specs.declared.vector.Rgb.{Rgb}
 use Rattle.hd_num.specs.Matrices.{Rows, identity}
-use Rattle.hd_value.specs.Locators.{is_same}
+use Rattle.hd_path.specs.Names.{Name, is_same}
 use Rattle.hd_value.specs.Maps.{Map}
 use Rattle.hd_scene.specs.Scenes.{Scene}
 use Rattle.hd_scene.specs.declared.prims.Entry.{Entry}
 use Rattle.hd_tokens.specs.Locators.{visibility_at, purpose_at, binding_at, color8_at, display_color_at}
 use Rattle.hd_flattening.specs.Values.{token_of, paths_of, colors_of}
 use Rattle.hd_flattening.specs.Local.{compose, local, is_reset}
+use Rattle.hd_path.specs.Paths.{Path}
 
 -- the values of the prim at a path
-abbrev pub values_at : Scene → List (List ℕ) → Map
+abbrev pub values_at : Scene → Path → Map
 values_at scene path = option_map_or (λ (e : Entry). e.values) (get scene path) empty
 
 -- the values of the first so many prims on the way to a path, the last of them first
-abbrev pub values_up : Scene → List (List ℕ) → ℕ → List Map
+abbrev pub values_up : Scene → Path → ℕ → List Map
 values_up scene path zero = []
 values_up scene path (suc n) = values_at scene (take (suc n) path) ∷ values_up scene path n
 
 -- the values of the ancestors of a path, the nearest first
-abbrev pub ancestors : Scene → List (List ℕ) → List Map
+abbrev pub ancestors : Scene → Path → List Map
 ancestors scene path = values_up scene path (length path - 1)
 
 -- of those that have it, the nearest
@@ -48,22 +49,22 @@ is_invisible prim = option_map_or (λ word. is_same word (codes "invisible")) (t
 abbrev pub is_visible : List Map → Bool
 is_visible prims = list_all (λ prim. not (is_invisible prim)) prims
 
-abbrev pub authored_purpose : Map → Option (List ℕ)
+abbrev pub authored_purpose : Map → Option Name
 authored_purpose prim = token_of (get prim purpose_at)
 
-abbrev pub flat_purpose : List Map → List ℕ
+abbrev pub flat_purpose : List Map → Name
 flat_purpose prims = unwrap_or (nearest authored_purpose prims) (codes "default")
 
-abbrev pub authored_binding : Map → Option (List (List (List ℕ)))
+abbrev pub authored_binding : Map → Option (List Path)
 authored_binding prim = paths_of (get prim binding_at)
 
 -- the first of some paths
-abbrev pub first_of : List (List (List ℕ)) → Option (List (List ℕ))
+abbrev pub first_of : List Path → Option Path
 first_of [] = None
 first_of (path ∷ paths) = Some path
 
 -- the first path of the nearest binding; one that is authored with no paths is no binding
-abbrev pub flat_binding : List Map → Option (List (List ℕ))
+abbrev pub flat_binding : List Map → Option Path
 flat_binding prims = option_and_then first_of (nearest authored_binding prims)
 
 -- the list, or the other one where it is empty

@@ -1,24 +1,24 @@
 -- The scene in which each prim has what it takes from those above it.
-use Rattle.std.specs.Prelude.{ℕ, Bool, not, List, [], ◌∷◌, map, Option, Some, None}
+use Rattle.std.specs.Prelude.{Bool, not, List, [], ◌∷◌, map, Option, Some, None}
 use Rattle.std.specs.List.{list_any}
 use Rattle.std.specs.FinMap.{insert, retain_keys, entries, from_entries}
 use Rattle.hd_num.specs.Matrices.{Rows}
 use Rattle.hd_value.specs.declared.value.Value.{Value}
 use Rattle.hd_value.specs.declared.value.Value.TheVariants.{Token, Colors, Paths, Matrix, Out, Flag}
-use Rattle.hd_value.specs.Locators.{is_prefix}
+use Rattle.hd_path.specs.Paths.{Path, is_prefix}
 use Rattle.hd_value.specs.Maps.{Map}
-use Rattle.hd_scene.specs.Scenes.{Scene}
+use Rattle.hd_scene.specs.Scenes.{Scene, with_each_prim}
 use Rattle.hd_scene.specs.declared.prims.Entry.{Entry}
-use Rattle.hd_tokens.specs.Locators.{xform_at, matrix_at, visibility_at, purpose_at, binding_at, color_at, color8_at, display_color_at}
+use Rattle.hd_tokens.specs.Locators.{Locator, xform_at, matrix_at, visibility_at, purpose_at, binding_at, color_at, color8_at, display_color_at}
 use Rattle.hd_flattening.specs.Flat.{ancestors, flat_matrix, is_visible, flat_purpose, flat_binding, flat_colors}
 
--- in place of what stands at or below these, flattening puts values of its own
-abbrev pub replaced_locators : List (List (List ℕ))
+-- in place of what is at or below these, flattening puts values of its own
+abbrev pub replaced_locators : List Locator
 replaced_locators = xform_at ∷ visibility_at ∷ purpose_at ∷ binding_at ∷ color8_at ∷ display_color_at ∷ []
 
--- whether what stands at the locator passes
-abbrev pub passes : List (List ℕ) → Bool
-passes at = not (list_any (λ place. is_prefix place at) replaced_locators)
+-- whether what is at the locator passes
+abbrev pub passes : Locator → Bool
+passes at = not (list_any (λ front. is_prefix front at) replaced_locators)
 
 -- a matrix as a value
 abbrev pub matrix_value : Option Rows → Value
@@ -26,7 +26,7 @@ matrix_value None = Out
 matrix_value (Some rows) = Matrix rows
 
 -- the map with a binding, where there is one
-abbrev pub with_binding : Map → Option (List (List ℕ)) → Map
+abbrev pub with_binding : Map → Option Path → Map
 with_binding m None = m
 with_binding m (Some path) = insert m binding_at (Paths (path ∷ []))
 
@@ -41,9 +41,9 @@ flat_values prim above =
     with_binding colored (flat_binding (prim ∷ above))
 
 -- a prim keeps its kind
-abbrev pub flat_entry : Scene → List (List ℕ) → Entry → Entry
+abbrev pub flat_entry : Scene → Path → Entry → Entry
 flat_entry scene path e = record { kind = e.kind; values = flat_values e.values (ancestors scene path) }
 
 -- each prim of the scene, flattened
-unfoldable pub flattened : Scene → Scene
-flattened scene = from_entries (map (λ (e : List (List ℕ) × Entry). (e.0, flat_entry scene e.0 e.1)) (entries scene))
+unfoldable pub flattened_scene : Scene → Scene
+flattened_scene scene = with_each_prim (flat_entry scene) scene

@@ -1,9 +1,7 @@
-pub mod Filters
 pub mod Values
 pub mod Local
 pub mod Flat
 pub mod Flattened
 pub mod Scenes
-pub mod Inheriting
-pub mod FlatLocators
 pub mod Laws
+pub mod inner

@@ -1,5 +1,5 @@
 -- The values of a prim that flattening reads.
-use Rattle.std.specs.Prelude.{ℕ, Bool, false, List, [], ◌∷◌, Option, Some, None}
+use Rattle.std.specs.Prelude.{Bool, false, List, [], Option, Some, None}
 use Rattle.std.specs.FinMap.{get}
 use Rattle.hd_num.specs.declared.op.Op as ops
 use Rattle.hd_num.specs.declared.vector.Rgb.{Rgb}
@@ -7,17 +7,19 @@ use Rattle.hd_tokens.specs.Locators.{op_at}
 use Rattle.hd_value.specs.declared.value.Value.{Value}
 use Rattle.hd_value.specs.declared.value.Value.TheVariants.{Token, Tokens, Colors, Paths, Op, Flag}
 use Rattle.hd_value.specs.Maps.{Map}
+use Rattle.hd_path.specs.Paths.{Path}
+use Rattle.hd_path.specs.Names.{Name}
 
 -- the tokens of a value, and none where there is another value, or nothing
-abbrev pub tokens_of : Option Value → List (List ℕ)
+abbrev pub tokens_of : Option Value → List Name
 tokens_of (Some (Tokens ts)) = ts
 tokens_of _ = []
 
-abbrev pub token_of : Option Value → Option (List ℕ)
+abbrev pub token_of : Option Value → Option Name
 token_of (Some (Token t)) = Some t
 token_of _ = None
 
-abbrev pub paths_of : Option Value → Option (List (List (List ℕ)))
+abbrev pub paths_of : Option Value → Option (List Path)
 paths_of (Some (Paths ps)) = Some ps
 paths_of _ = None
 
@@ -35,5 +37,5 @@ is_set (Some (Flag b)) = b
 is_set _ = false
 
 -- the op of a name
-abbrev pub named_op : Map → List ℕ → Option ops.Op
+abbrev pub named_op : Map → Name → Option ops.Op
 named_op prim name = op_of (get prim (op_at name))

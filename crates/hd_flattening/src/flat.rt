@@ -1,20 +1,21 @@
 //! The container of a flat prim.
 
-ghost use Rattle.std.specs.Prelude.{◌≡◌, List, codes, unwrap_or, IsTrue, IfOk, OnOk};
-ghost use Rattle.std.specs.Option.{option_and_then, ForSome};
+ghost use Rattle.std.specs.Prelude.{◌≡◌, List, Some, codes, unwrap_or, IsTrue, IfOk, OnOk};
+ghost use Rattle.std.specs.Option.{option_and_then};
 ghost use Rattle.hd_tokens.specs.Tables.{texts};
 ghost use Rattle.hd_value.specs.Maps.{Map};
 ghost use Rattle.hd_value.specs.Schema.{IsInstanced};
+ghost use Rattle.hd_scene.specs.Scenes.{prim_of};
 ghost use Rattle.hd_flattening.specs.Flat.{first_of};
 ghost use Rattle.hd_flattening.specs.Flattened.{flat_values, matrix_value};
-ghost use Rattle.hd_flattening.specs.Inheriting.{inherited_from, flat_primitive, IsFlat};
-ghost use Rattle.hd_flattening.specs.FlatLocators.{binding_value, flat_locators, is_among, with_all_passed, with_passed, with_value, IsWithin};
+ghost use Rattle.hd_flattening.specs.inner.Inheriting.{inherited_from, IsFlat};
+ghost use Rattle.hd_flattening.specs.inner.FlatLocators.{binding_value, flat_locators, is_among, with_all_passed, with_passed, with_value, IsWithin};
 
 use crate::inherited::Inherited;
 use crate::values::{copy_of, value_at};
 use hd_num::{List, Matrix};
 use hd_path::{Path, Token};
-use hd_scene::Prim;
+use hd_scene::{Entry, Prim};
 use hd_tokens::locators;
 use hd_value::{Container, Value};
 use std::alloc::{AllocError, Global};
@@ -23,19 +24,14 @@ use std::alloc::{AllocError, Global};
 pub(crate) fn flat_prim(
     alloc: Global,
     inherited: &Inherited,
-    prim: Prim,
+    entry: Entry,
 ) -> Result<Prim, AllocError>
-    requires { ForSome prim.values IsInstanced }
-    ensures { IfOk result (λ flat. (above : List Map) → inherited.now ≡ inherited_from above → flat ≡ flat_primitive prim above) }
+    requires { IsInstanced entry.values }
+    ensures { IfOk result (λ prim. (above : List Map) → inherited.now ≡ inherited_from above → prim ≡ prim_of (Some (record { kind = entry.kind; values = flat_values entry.values above }))) }
 {
-    let Prim { kind, values } = prim;
-    match values {
-        Some(values) => Ok(Prim {
-            kind,
-            values: Some(flat_values(alloc, inherited, &values)?),
-        }),
-        None => Ok(Prim { kind, values: None }),
-    }
+    let values = flat_values(alloc, inherited, &entry.values)?;
+    let kind = entry.kind;
+    Prim::of(alloc, Some(Entry { kind, values }))
 }
 
 /// The flattened values of a prim, given what it inherits.

@@ -1,13 +1,13 @@
 //! A scene in which each prim has what it takes from those above it.
 
-ghost use Rattle.std.specs.Prelude.{◌≡◌, IfOk};
+ghost use Rattle.std.specs.Prelude.{◌≡◌, false, IfOk};
 ghost use Rattle.std.specs.Borrow.{Lends, sem};
 ghost use Rattle.std.specs.FinMap.{get};
 ghost use Rattle.hd_value.specs.Schema.{is_instanced};
 ghost use Rattle.hd_scene.specs.Scenes.{prim_of, SceneConforms};
 ghost use Rattle.hd_flattening.specs.Flat.{ancestors};
-ghost use Rattle.hd_flattening.specs.Flattened.{flattened};
-ghost use Rattle.hd_flattening.specs.Inheriting.{inherited_from};
+ghost use Rattle.hd_flattening.specs.Flattened.{flattened_scene};
+ghost use Rattle.hd_flattening.specs.inner.Inheriting.{inherited_from};
 ghost use Rattle.hd_flattening.specs.contracts.flattening.Flattening.{the_row};
 
 use crate::flat::flat_prim;
@@ -33,17 +33,18 @@ pub struct Flattening<I> {
 }
 
 impl<I> Model for Flattening<I> {
-    ghost use Rattle.hd_flattening.specs.Filters.{Filter};
+    ghost use Rattle.std.specs.Prelude.{false};
+    ghost use Rattle.hd_scene.specs.Filters.{FilterState};
 
-    ghost Value = { Filter I };
+    ghost Value = { FilterState I };
 
-    ghost view = { λ filter. record { input = filter.input; pulls = filter.pulls } };
+    ghost view = { λ filter. record { input = filter.input; told = filter.input; pulls = filter.pulls; spent = false } };
 }
 
 impl<I> Flattening<I> {
     /// A filter of an input, which takes no memory.
     pub fn new(input: I) -> Flattening<I>
-        ensures { result ≡ record { input = input; pulls = 0 } }
+        ensures { result ≡ record { input = input; told = input; pulls = 0; spent = false } }
     {
         Flattening { input, pulls: 0 }
     }
@@ -57,7 +58,7 @@ impl<I> Flattening<I> {
 
     /// The input, to be changed. What is written to it changes nothing else of the filter.
     pub fn input_mut(&mut self) -> &mut I
-        ensures* writes_back { sem 𝓛 (Lends (the_row I.row) I.row self.entry result (λ w. record self.old { input = w })) }
+        ensures* writes_back { sem 𝓛 (Lends (the_row I.row) I.row self.entry result (λ w. record self.old { input = w; told = w })) }
         ensures value { result.now ≡ self.old.input }
     {
         &mut self.input
@@ -69,7 +70,7 @@ impl<I: SceneIndex> SceneIndex for Flattening<I> {
 
     type Origin = I::Origin;
 
-    ghost scene = { λ x. flattened (I.scene x.input) };
+    ghost scene = { λ x. flattened_scene (I.scene x.input) };
 
     ghost origin = { λ x. I.origin x.input };
 
@@ -97,14 +98,17 @@ impl<I: SceneIndex> SceneIndex for Flattening<I> {
 fn prim_at<I: SceneIndex>(input: &mut I, alloc: Global, path: &Path) -> Result<Prim, AllocError>
     requires in_step { I.is_in_step input.old }
     requires conforms { SceneConforms is_instanced (I.scene input.old) }
-    ensures value { IfOk result (λ prim. prim ≡ prim_of (get (flattened (I.scene input.old)) path.now)) }
+    ensures value { IfOk result (λ prim. prim ≡ prim_of (get (flattened_scene (I.scene input.old)) path.now)) }
     ensures in_step { I.is_in_step input.new }
     ensures same_scene { I.scene input.new ≡ I.scene input.old }
     ensures same_origin { I.origin input.new ≡ I.origin input.old }
 {
     let inherited = inherited_at(input, alloc, path)?;
     let prim = input.prim(alloc, path)?;
-    flat_prim(alloc, &inherited, prim)
+    match prim.into_entry() {
+        Some(entry) => flat_prim(alloc, &inherited, entry),
+        None => Prim::absent(alloc),
+    }
 }
 
 /// What the prim at a path takes from its ancestors.

@@ -3,7 +3,7 @@
 ghost use Rattle.std.specs.Prelude.{◌≡◌, ◌||◌, [], IfOk};
 ghost use Rattle.hd_flattening.specs.Flat.{authored_binding, authored_purpose, flat_colors, flat_matrix, is_invisible, is_visible, nearest, own_colors, own_single};
 ghost use Rattle.hd_flattening.specs.Local.{begins_with_reset};
-ghost use Rattle.hd_flattening.specs.Inheriting.{inherited_from, prim_values, IsFlatOf};
+ghost use Rattle.hd_flattening.specs.inner.Inheriting.{inherited_from, prim_values, IsFlatOf};
 
 use crate::local::{begins_with_reset, compose, ops_product};
 use crate::values::{colors_of, is_set, paths_of, token_of, tokens_of, value_at};

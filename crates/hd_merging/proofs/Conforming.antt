@@ -8,12 +8,14 @@ use Rattle.hd_value.specs.LocatorSets.{touches}
 use Rattle.hd_value.specs.Maps.{overlaid_at}
 use Rattle.hd_scene.specs.Scenes.{Scene, value_at, SceneConforms}
 use Rattle.hd_scene.specs.declared.prims.Entry.{Entry}
-use Rattle.hd_merging.specs.Merges.{merged_entry, prims_at, merged}
-use Rattle.hd_merging.specs.MergedScenes.{get-overlaid, get-merged}
+use Rattle.hd_merging.specs.Merges.{merged_entry, prims_at, merged_scene}
+use Rattle.hd_merging.specs.inner.MergedScenes.{get-overlaid, get-merged}
 use Rattle.hd_merging.proofs.Together.{values_of}
+use Rattle.hd_path.specs.Paths.{Path}
+use Rattle.hd_tokens.specs.Locators.{Locator}
 
 -- a value of a merged scene
-pub value_at-merged : (ss : List Scene) (path at : List (List ℕ)) → value_at (merged ss) path at ≡ overlaid_at (values_of (prims_at ss path)) at
+pub value_at-merged : (ss : List Scene) (path : Path) (at : Locator) → value_at (merged_scene ss) path at ≡ overlaid_at (values_of (prims_at ss path)) at
 value_at-merged ss path at = ap (option_and_then (λ (e : Entry). get e.values at)) (get-merged ss path) ∙ together (prims_at ss path)
   where
     together : (es : List Entry) → option_and_then (λ (e : Entry). get e.values at) (merged_entry es) ≡ overlaid_at (values_of es) at
@@ -21,7 +23,7 @@ value_at-merged ss path at = ap (option_and_then (λ (e : Entry). get e.values a
     together (e ∷ es) = get-overlaid (values_of (e ∷ es)) at
 
 -- a value of any of the scenes
-value_of_one : (may_stand : List (List ℕ) → Value → Bool) (ss : List Scene) → All (SceneConforms may_stand) ss → (path at : List (List ℕ)) (v : Value)
+value_of_one : (may_stand : List (List ℕ) → Value → Bool) (ss : List Scene) → All (SceneConforms may_stand) ss → (path : Path) (at : Locator) (v : Value)
     → overlaid_at (values_of (prims_at ss path)) at ≡ Some v → IsTrue (may_stand at v)
 value_of_one may_stand [] all path at v h = absurd (none_is_not h)
   where
@@ -37,6 +39,6 @@ value_of_one may_stand (s ∷ ss) all path at v h =
       ]
     ] refl h
 
-pub merged_conforms : (may_stand : List (List ℕ) → Value → Bool) (ss : List Scene) → All (SceneConforms may_stand) ss → SceneConforms may_stand (merged ss)
+pub merged_conforms : (may_stand : List (List ℕ) → Value → Bool) (ss : List Scene) → All (SceneConforms may_stand) ss → SceneConforms may_stand (merged_scene ss)
 merged_conforms may_stand ss all path e there at v is =
     value_of_one may_stand ss all path at v (sym (value_at-merged ss path at) ∙ ap (option_and_then (λ (d : Entry). get d.values at)) there ∙ is)

@@ -5,8 +5,9 @@ use Rattle.std.specs.List.{cons_option}
 use Rattle.std.specs.FinMap.{get}
 use Rattle.hd_scene.specs.Scenes.{Scene}
 use Rattle.hd_scene.specs.declared.prims.Entry.{Entry}
-use Rattle.hd_merging.specs.Merges.{merged_entry, prims_at, merged}
-use Rattle.hd_merging.specs.MergedScenes.{get-merged}
+use Rattle.hd_merging.specs.Merges.{merged_entry, prims_at, merged_scene}
+use Rattle.hd_merging.specs.inner.MergedScenes.{get-merged}
+use Rattle.hd_path.specs.Paths.{Path}
 
 -- there is a scene at each place
 pub at_place : (ss : List Scene) (i : ℕ) → i < length ss → (s : Scene) × (slice_get ss i ≡ Some s)
@@ -23,7 +24,7 @@ from_place ss i n s next here = at_one ss i here ∙ ap (λ (k : ℕ). s ∷ dro
     at_one (x ∷ xs) (suc i) h = rw add-one (at_one xs i h ∙ rw add-one refl)
 
 -- what the prims are together, with one scene more
-pub prim_further : (ss : List Scene) (i n : ℕ) (s : Scene) (path : List (List ℕ)) (stronger old new : Option Entry) → n ≡ i + 1 → slice_get ss i ≡ Some s → stronger ≡ get s path
+pub prim_further : (ss : List Scene) (i n : ℕ) (s : Scene) (path : Path) (stronger old new : Option Entry) → n ≡ i + 1 → slice_get ss i ≡ Some s → stronger ≡ get s path
     → ((weaker : List Entry) → old ≡ merged_entry weaker → new ≡ merged_entry (cons_option stronger weaker))
     → old ≡ merged_entry (prims_at (drop n ss) path) → new ≡ merged_entry (prims_at (drop i ss) path)
 prim_further ss i n s path stronger old new next here is laid before =
@@ -32,5 +33,5 @@ prim_further ss i n s path stronger old new next here is laid before =
     ∙ ap (λ (z : List Scene). merged_entry (prims_at z path)) (sym (from_place ss i n s next here))
 
 -- and with all of them
-pub prim_of_merged : (ss : List Scene) (i : ℕ) (path : List (List ℕ)) (o : Option Entry) → i ≡ 0 → o ≡ merged_entry (prims_at (drop i ss) path) → o ≡ get (merged ss) path
+pub prim_of_merged : (ss : List Scene) (i : ℕ) (path : Path) (o : Option Entry) → i ≡ 0 → o ≡ merged_entry (prims_at (drop i ss) path) → o ≡ get (merged_scene ss) path
 prim_of_merged ss i path o first is = is ∙ ap (λ (k : ℕ). merged_entry (prims_at (drop k ss) path)) first ∙ sym (get-merged ss path)

@@ -1,4 +1,4 @@
 pub mod Merges
 pub mod Merged
-pub mod MergedScenes
 pub mod Laws
+pub mod inner

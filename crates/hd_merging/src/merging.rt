@@ -2,10 +2,10 @@
 
 ghost use Rattle.std.specs.Prelude.{◌≡◌, ◌<◌, length, map, All, slice_get, slice_set, Some};
 ghost use Rattle.std.specs.Borrow.{Lends, sem};
-ghost use Rattle.hd_merging.specs.Merges.{merged};
+ghost use Rattle.hd_merging.specs.Merges.{merged_scene};
 ghost use Rattle.hd_merging.specs.contracts.merging.Merging.{the_row};
 
-use crate::asking::{names_below, prim_of_all};
+use crate::queries::{names_below, prim_of_all};
 use hd_num::List;
 use hd_path::{Path, Token};
 use hd_scene::{Prim, SceneIndex};
@@ -63,11 +63,11 @@ impl<I> Merging<I> {
 }
 
 impl<I: SceneIndex> SceneIndex for Merging<I> {
-    ghost use Rattle.hd_merging.specs.MergedScenes.{inputs_closed};
+    ghost use Rattle.hd_merging.specs.inner.MergedScenes.{inputs_closed};
 
     type Origin = List<I::Origin>;
 
-    ghost scene = { λ merging. merged (map I.scene merging.inputs) };
+    ghost scene = { λ merging. merged_scene (map I.scene merging.inputs) };
 
     ghost origin = { λ merging. map I.origin merging.inputs };
 

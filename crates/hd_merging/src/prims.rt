@@ -2,44 +2,16 @@
 
 ghost use Rattle.std.specs.Prelude.{◌≡◌, [], ◌∷◌, List, Option, IfOk};
 ghost use Rattle.std.specs.List.{cons_option};
-ghost use Rattle.hd_scene.specs.Scenes.{prim_of};
 ghost use Rattle.hd_scene.specs.declared.prims.Entry.{Entry};
 ghost use Rattle.hd_merging.specs.Merges.{first_kind, merged_prim, merged_entry};
 
 use hd_path::Token;
-use hd_scene::{Entry, Prim};
+use hd_scene::Entry;
 use hd_value::Container;
 use std::alloc::{AllocError, Global};
 
-/// The prim that was answered, if one is there.
-pub(crate) fn entry_of(prim: Prim) -> Option<Entry>
-    ensures { (there : Option Entry) → prim ≡ prim_of there → result ≡ there }
-{
-    let Prim { kind, values } = prim;
-    match values {
-        Some(values) => Some(Entry { kind, values }),
-        None => None,
-    }
-}
-
-/// What is answered for a prim, or for none.
-pub(crate) fn answer_of(alloc: Global, there: Option<Entry>) -> Result<Prim, AllocError>
-    ensures { IfOk result (λ prim. prim ≡ prim_of there) }
-{
-    match there {
-        Some(entry) => Ok(Prim {
-            kind: entry.kind,
-            values: Some(entry.values),
-        }),
-        None => Ok(Prim {
-            kind: Token::new(alloc, "")?,
-            values: None,
-        }),
-    }
-}
-
 /// What a prim and weaker ones are together, where these are known to be one already.
-pub(crate) fn laid_over(
+pub(crate) fn entry_over(
     alloc: Global,
     strong: Option<Entry>,
     weak: Option<Entry>,

@@ -6,29 +6,26 @@ use Rattle.std.specs.Ordering.{eq_by_cmp}
 use Rattle.std.specs.FinMap.{get, contains_key, insert, retain_keys, get-insert, get-retain_keys, same_map}
 use Rattle.std.specs.BTreeMap as tree
 use Rattle.std.specs.BTreeMap.{BTreeMap}
-use Rattle.hd_path.specs.Paths.{IsPath, path_cmp}
-use Rattle.hd_value.specs.Locators.{is_same, is_prefix}
-use Rattle.hd_value.proofs.Prefixes.{same_itself, prefix_of_prefix}
+use Rattle.hd_path.specs.Paths.{Path, IsPath, path_cmp, is_prefix}
+use Rattle.hd_path.specs.Names.{Name, is_same}
+use Rattle.hd_path.proofs.NamePrefixes.{same_itself, prefix_of_prefix}
 use Rattle.hd_schema.proofs.Lookups.{and_true}
 use Rattle.hd_scene.specs.declared.prims.Entry.{Entry}
 use Rattle.hd_scene.specs.Scenes.{IsClosed}
 use Rattle.hd_scene.proofs.Children.{path_cmp_total, path_cmp_exact, take-front}
 use Rattle.hd_scene.proofs.Closing.{insert_closed}
-use Rattle.hd_retained.specs.declared.held.Place.{Place}
-use Rattle.hd_retained.specs.declared.held.Held.{Held}
+use Rattle.hd_retained.specs.declared.stored.DepthKey.{DepthKey}
+use Rattle.hd_retained.specs.declared.stored.StoredPrim.{StoredPrim}
 use Rattle.hd_retained.specs.Layers.{LayerPrim, Layer, entry_of, scene_of}
 use Rattle.hd_retained.specs.declared.fault.EditFault.{EditFault}
 use Rattle.hd_retained.specs.declared.fault.EditFault.TheVariants.{NoPrim}
 use Rattle.hd_retained.specs.Edits.{has_parent, after_remove}
-use Rattle.hd_retained.specs.Indexed.{place_cmp, place_of, is_listed, prim_of, layer_in, IsSound, IsSubtree, IsWithout}
+use Rattle.hd_retained.specs.inner.Indexed.{depth_key_cmp, depth_key_of, is_listed, prim_of, layer_in, IsSound, IsSubtree, IsWithout}
 use Rattle.hd_retained.proofs.Listing.{and_is}
 use Rattle.hd_retained.proofs.Kept.{get-kept, get-scene, scene_has, same_layer}
 
-abbrev Names : Type 0
-Names = List (List ℕ)
-
 -- the scene after a prim was put
-scene_insert : (layer : Layer) (path : Names) (p : LayerPrim) → scene_of (insert layer path p) ≡ insert (scene_of layer) path (entry_of p)
+scene_insert : (layer : Layer) (path : Path) (p : LayerPrim) → scene_of (insert layer path p) ≡ insert (scene_of layer) path (entry_of p)
 scene_insert layer path p = same_map path_cmp_total path_cmp_exact (scene_of (insert layer path p)) (insert (scene_of layer) path (entry_of p)) (λ q.
     get-scene (insert layer path p) q
     ∙ ap (option_map entry_of) (get-insert path_cmp_total layer path p q)
@@ -41,7 +38,7 @@ scene_insert layer path p = same_map path_cmp_total path_cmp_exact (scene_of (in
     choice false o = refl
 
 -- the parent of a path of two names or more
-pub parent_is : (path front : Names) (name below : List ℕ) → path ≡ front ++ name ∷ below ∷ [] → (take (length path - 1) path ≡ front ++ name ∷ []) × (nat_le (length path) 1 ≡ false)
+pub parent_is : (path front : Path) (name below : Name) → path ≡ front ++ name ∷ below ∷ [] → (take (length path - 1) path ≡ front ++ name ∷ []) × (nat_le (length path) 1 ≡ false)
 parent_is path front name below is =
     let whole : path ≡ (front ++ name ∷ []) ++ below ∷ [] = is ∙ sym (append_assoc front (name ∷ []) (below ∷ [])) in
     let long : length path ≡ length (front ++ name ∷ []) + 1 = ap length whole ∙ length-append (front ++ name ∷ []) (below ∷ []) in
@@ -54,26 +51,26 @@ parent_is path front name below is =
       ] refl,
     )
 
--- where a prim may stand its parent is there
-pub parent_there : (layer : Layer) (path front : Names) (name below : List ℕ) → has_parent layer path ≡ true → path ≡ front ++ name ∷ below ∷ [] → is_some (get layer (front ++ name ∷ [])) ≡ true
+-- where a prim may be its parent is there
+pub parent_there : (layer : Layer) (path front : Path) (name below : Name) → has_parent layer path ≡ true → path ≡ front ++ name ∷ below ∷ [] → is_some (get layer (front ++ name ∷ [])) ≡ true
 parent_there layer path front name below may is =
     let parent = parent_is path front name below is in
-    sym (ap (λ b. b || contains_key layer (take (length path - 1) path)) parent.1 ∙ ap (λ (q : Names). is_some (get layer q)) parent.0) ∙ may
+    sym (ap (λ b. b || contains_key layer (take (length path - 1) path)) parent.1 ∙ ap (λ (q : Path). is_some (get layer q)) parent.0) ∙ may
 
-pub define_closed : (layer : Layer) (path : Names) (p : LayerPrim) → IsClosed (scene_of layer) → path ≢ [] → IsPath path → has_parent layer path ≡ true → IsClosed (scene_of (insert layer path p))
+pub define_closed : (layer : Layer) (path : Path) (p : LayerPrim) → IsClosed (scene_of layer) → path ≢ [] → IsPath path → has_parent layer path ≡ true → IsClosed (scene_of (insert layer path p))
 define_closed layer path p closed below_root is_path may =
     subst IsClosed (sym (scene_insert layer path p)) (insert_closed (scene_of layer) path (entry_of p) closed below_root is_path (λ front name below is. scene_has layer (front ++ name ∷ []) ∙ parent_there layer path front name below may is))
 
-pub change_closed : (layer : Layer) (path : Names) (old p : LayerPrim) → IsClosed (scene_of layer) → path ≢ [] → get layer path ≡ Some old → IsClosed (scene_of (insert layer path p))
+pub change_closed : (layer : Layer) (path : Path) (old p : LayerPrim) → IsClosed (scene_of layer) → path ≢ [] → get layer path ≡ Some old → IsClosed (scene_of (insert layer path p))
 change_closed layer path old p closed below_root there =
     let here : is_some (get (scene_of layer) path) ≡ true = scene_has layer path ∙ ap is_some there in
     subst IsClosed (sym (scene_insert layer path p))
-    (insert_closed (scene_of layer) path (entry_of p) closed below_root (closed.paths path here) (λ front name below is. closed.parents front name below (subst (λ (q : Names). is_some (get (scene_of layer) q) ≡ true) is here)))
+    (insert_closed (scene_of layer) path (entry_of p) closed below_root (closed.paths path here) (λ front name below is. closed.parents front name below (subst (λ (q : Path). is_some (get (scene_of layer) q) ≡ true) is here)))
 
 -- a layer is closed where its paths are
 pub closed_by : (layer : Layer) → is_some (get layer []) ≡ false
-    → ((path : Names) (name below : List ℕ) → is_some (get layer (path ++ name ∷ below ∷ [])) ≡ true → is_some (get layer (path ++ name ∷ [])) ≡ true)
-    → ((path : Names) → is_some (get layer path) ≡ true → IsPath path) → IsClosed (scene_of layer)
+    → ((path : Path) (name below : Name) → is_some (get layer (path ++ name ∷ below ∷ [])) ≡ true → is_some (get layer (path ++ name ∷ [])) ≡ true)
+    → ((path : Path) → is_some (get layer path) ≡ true → IsPath path) → IsClosed (scene_of layer)
 closed_by layer no_root parents paths = record {
   no_root = none (get (scene_of layer) []) (scene_has layer [] ∙ no_root);
   parents = λ path name below there. scene_has layer (path ++ name ∷ []) ∙ parents path name below (sym (scene_has layer (path ++ name ∷ below ∷ [])) ∙ there);
@@ -87,8 +84,8 @@ closed_by layer no_root parents paths = record {
 -- and the other way round
 pub record HasParents (layer : Layer) : Type 0 where
   pub no_root : is_some (get layer []) ≡ false
-  pub parents : (path : Names) (name below : List ℕ) → is_some (get layer (path ++ name ∷ below ∷ [])) ≡ true → is_some (get layer (path ++ name ∷ [])) ≡ true
-  pub paths : (path : Names) → is_some (get layer path) ≡ true → IsPath path
+  pub parents : (path : Path) (name below : Name) → is_some (get layer (path ++ name ∷ below ∷ [])) ≡ true → is_some (get layer (path ++ name ∷ [])) ≡ true
+  pub paths : (path : Path) → is_some (get layer path) ≡ true → IsPath path
 
 pub has_parents : (layer : Layer) → IsClosed (scene_of layer) → HasParents layer
 has_parents layer closed = record {
@@ -98,26 +95,26 @@ has_parents layer closed = record {
 }
 
 -- what is left where all at and below a path is gone
-pub get-left : (layer : Layer) (path q : Names) → get (retain_keys layer (λ p. not (is_prefix path p))) q ≡ cond (not (is_prefix path q)) (get layer q) None
-get-left layer path q = get-retain_keys layer (λ p. not (is_prefix path p)) q (λ p tie. ap (λ (z : Names). not (is_prefix path z)) (sym (path_cmp_exact q p tie)))
+pub get-left : (layer : Layer) (path q : Path) → get (retain_keys layer (λ p. not (is_prefix path p))) q ≡ cond (not (is_prefix path q)) (get layer q) None
+get-left layer path q = get-retain_keys layer (λ p. not (is_prefix path p)) q (λ p tie. ap (λ (z : Path). not (is_prefix path z)) (sym (path_cmp_exact q p tie)))
 
 left_there : (b : Bool) (o : Option LayerPrim) → is_some (cond (not b) o None) ≡ (not b && is_some o)
 left_there true o = refl
 left_there false o = refl
 
-has_left : (layer : Layer) (path q : Names) → is_some (get (retain_keys layer (λ p. not (is_prefix path p))) q) ≡ (not (is_prefix path q) && is_some (get layer q))
+has_left : (layer : Layer) (path q : Path) → is_some (get (retain_keys layer (λ p. not (is_prefix path p))) q) ≡ (not (is_prefix path q) && is_some (get layer q))
 has_left layer path q = ap is_some (get-left layer path q) ∙ left_there (is_prefix path q) (get layer q)
 
-pub front_prefix : (front rest : Names) → is_prefix front (front ++ rest) ≡ true
+pub front_prefix : (front rest : Path) → is_prefix front (front ++ rest) ≡ true
 front_prefix [] rest = refl
 front_prefix (x ∷ front) rest = and_is (is_same x x) (is_prefix front (front ++ rest)) (same_itself x) (front_prefix front rest)
 
 -- the parent is a prefix
-pub parent_prefix : (path : Names) (name below : List ℕ) → is_prefix (path ++ name ∷ []) (path ++ name ∷ below ∷ []) ≡ true
-parent_prefix path name below = subst (λ (q : Names). is_prefix (path ++ name ∷ []) q ≡ true) (append_assoc path (name ∷ []) (below ∷ [])) (front_prefix (path ++ name ∷ []) (below ∷ []))
+pub parent_prefix : (path : Path) (name below : Name) → is_prefix (path ++ name ∷ []) (path ++ name ∷ below ∷ []) ≡ true
+parent_prefix path name below = subst (λ (q : Path). is_prefix (path ++ name ∷ []) q ≡ true) (append_assoc path (name ∷ []) (below ∷ [])) (front_prefix (path ++ name ∷ []) (below ∷ []))
 
 -- a path whose child is not below another one is not below it
-pub parent_apart : (at path : Names) (name below : List ℕ) → is_prefix at (path ++ name ∷ below ∷ []) ≡ false → is_prefix at (path ++ name ∷ []) ≡ false
+pub parent_apart : (at path : Path) (name below : Name) → is_prefix at (path ++ name ∷ below ∷ []) ≡ false → is_prefix at (path ++ name ∷ []) ≡ false
 parent_apart at path name below apart =
     elim (is_prefix at (path ++ name ∷ [])) as (λ b. is_prefix at (path ++ name ∷ []) ≡ b → b ≡ false) [
       | true ↦ λ yes. sym (prefix_of_prefix at (path ++ name ∷ []) (path ++ name ∷ below ∷ []) yes (parent_prefix path name below)) ∙ apart
@@ -128,7 +125,7 @@ not_false : (b : Bool) → not b ≡ true → b ≡ false
 not_false true e = sym e
 not_false false e = refl
 
-pub remove_closed : (layer : Layer) (path : Names) → IsClosed (scene_of layer) → IsClosed (scene_of (retain_keys layer (λ p. not (is_prefix path p))))
+pub remove_closed : (layer : Layer) (path : Path) → IsClosed (scene_of layer) → IsClosed (scene_of (retain_keys layer (λ p. not (is_prefix path p))))
 remove_closed layer path closed =
     let own = has_parents layer closed in
     closed_by (retain_keys layer (λ p. not (is_prefix path p)))
@@ -143,30 +140,30 @@ remove_closed layer path closed =
     never true = refl
     never false = refl
 
--- a tree without some places is sound
-pub without_sound : (m n : BTreeMap Place Held) (places : List Place) → IsSound m → IsWithout m places n → IsSound n
-without_sound m n places sound without = record {
-  placed = λ q there. sound.placed q (still (is_listed places q) (tree.get place_cmp m q) (ap is_some (sym (without q)) ∙ there));
-  held = λ q h is. sound.held q h (same (is_listed places q) (tree.get place_cmp m q) h (sym (without q) ∙ is));
+-- a tree without some keys is sound
+pub without_sound : (m n : BTreeMap DepthKey StoredPrim) (keys : List DepthKey) → IsSound m → IsWithout m keys n → IsSound n
+without_sound m n keys sound without = record {
+  placed = λ q there. sound.placed q (still (is_listed keys q) (tree.get depth_key_cmp m q) (ap is_some (sym (without q)) ∙ there));
+  stored = λ q h is. sound.stored q h (same (is_listed keys q) (tree.get depth_key_cmp m q) h (sym (without q) ∙ is));
 }
   where
-    still : (b : Bool) (o : Option Held) → is_some (cond b None o) ≡ true → is_some o ≡ true
+    still : (b : Bool) (o : Option StoredPrim) → is_some (cond b None o) ≡ true → is_some o ≡ true
     still true o h = cc
     still false o h = h
 
-    same : (b : Bool) (o : Option Held) (h : Held) → cond b None o ≡ Some h → o ≡ Some h
+    same : (b : Bool) (o : Option StoredPrim) (h : StoredPrim) → cond b None o ≡ Some h → o ≡ Some h
     same true o h e = cc
     same false o h e = e
 
-pub without_layer : (m n : BTreeMap Place Held) (path : Names) (places : List Place) → IsSound m → IsSubtree m path places → IsWithout m places n → layer_in n ≡ retain_keys (layer_in m) (λ p. not (is_prefix path p))
-without_layer m n path places sound subtree without = same_layer (layer_in n) (retain_keys (layer_in m) (λ p. not (is_prefix path p))) (λ q.
-    get-kept n (without_sound m n places sound without) q
-    ∙ ap (option_map prim_of) (without (place_of q) ∙ ap (λ b. cond b None (tree.get place_cmp m (place_of q))) (subtree.listed q))
-    ∙ left (is_prefix path q) (tree.get place_cmp m (place_of q))
+pub without_layer : (m n : BTreeMap DepthKey StoredPrim) (path : Path) (keys : List DepthKey) → IsSound m → IsSubtree m path keys → IsWithout m keys n → layer_in n ≡ retain_keys (layer_in m) (λ p. not (is_prefix path p))
+without_layer m n path keys sound subtree without = same_layer (layer_in n) (retain_keys (layer_in m) (λ p. not (is_prefix path p))) (λ q.
+    get-kept n (without_sound m n keys sound without) q
+    ∙ ap (option_map prim_of) (without (depth_key_of q) ∙ ap (λ b. cond b None (tree.get depth_key_cmp m (depth_key_of q))) (subtree.listed q))
+    ∙ left (is_prefix path q) (tree.get depth_key_cmp m (depth_key_of q))
     ∙ ap (λ (o : Option LayerPrim). cond (not (is_prefix path q)) o None) (sym (get-kept m sound q))
     ∙ sym (get-left (layer_in m) path q))
   where
-    left : (b : Bool) (o : Option Held) → option_map prim_of (cond (b && is_some o) None o) ≡ cond (not b) (option_map prim_of o) None
+    left : (b : Bool) (o : Option StoredPrim) → option_map prim_of (cond (b && is_some o) None o) ≡ cond (not b) (option_map prim_of o) None
     left true None = refl
     left true (Some h) = refl
     left false o = refl
@@ -176,6 +173,6 @@ abbrev answer : Bool → Layer → Result Layer EditFault
 answer b l = if b then Ok l else Err NoPrim
 
 -- the removal is done
-pub removed : (old new : Layer) (path : Names) → is_some (get old path) ≡ true → new ≡ retain_keys old (λ p. not (is_prefix path p)) → after_remove old path ≡ Ok new
+pub removed : (old new : Layer) (path : Path) → is_some (get old path) ≡ true → new ≡ retain_keys old (λ p. not (is_prefix path p)) → after_remove old path ≡ Ok new
 removed old new path there is =
     ap (λ b. answer b (retain_keys old (λ p. not (is_prefix path p)))) there ∙ ap (λ (l : Layer). answer true l) (sym is)

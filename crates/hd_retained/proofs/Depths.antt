@@ -1,4 +1,4 @@
--- Places of one depth that begin with one path stand together.
+-- Places of one depth that begin with one path are together.
 use Rattle.std.proofs.Common.{◌≡◌, ℕ, Bool, true, false, cond, ◌&&◌, ◌==◌, List, [], ◌∷◌, ◌++◌, filter, refl, sym, ◌∙◌, ap, subst}
 use Rattle.std.proofs.lemmas.Cmp.{nat_cmp_total, tied_itself}
 use Rattle.std.proofs.lemmas.Bool.Decides.{Decides-eqb}
@@ -12,13 +12,13 @@ use Rattle.std.specs.Map.{keys_of}
 use Rattle.std.specs.Ordering.{nat_cmp, is_le, ordering_then, ordering_reverse}
 use Rattle.std.specs.declared.cmp.Ordering.{Ordering}
 use Rattle.std.specs.declared.cmp.Ordering.TheVariants.{Less, Equal, Greater}
-use Rattle.hd_value.specs.Locators.{is_same, is_prefix}
-use Rattle.hd_value.proofs.Prefixes.{same_text, same_itself}
+use Rattle.hd_path.specs.Names.{is_same}
+use Rattle.hd_path.proofs.NamePrefixes.{same_text, same_itself}
 use Rattle.hd_schema.proofs.Lookups.{and_true, true_is_not}
-use Rattle.hd_path.specs.Paths.{path_cmp}
-use Rattle.hd_retained.specs.declared.held.Place.{Place}
-use Rattle.hd_retained.specs.declared.held.Held.{Held}
-use Rattle.hd_retained.specs.Indexed.{place_cmp, is_at_depth}
+use Rattle.hd_path.specs.Paths.{Path, path_cmp, is_prefix}
+use Rattle.hd_retained.specs.declared.stored.DepthKey.{DepthKey}
+use Rattle.hd_retained.specs.declared.stored.StoredPrim.{StoredPrim}
+use Rattle.hd_retained.specs.inner.Indexed.{depth_key_cmp, is_at_depth}
 use Rattle.hd_retained.proofs.Listing.{and_is}
 
 abbrev name_cmp : List ℕ → List ℕ → Ordering
@@ -28,7 +28,7 @@ not_le : (r s : Ordering) → r ≡ Greater → is_le (ordering_then r s) ≡ fa
 not_le r s e = ap (λ (x : Ordering). is_le (ordering_then x s)) e
 
 -- a prefix comes first
-prefix_le : (p q : List (List ℕ)) → is_prefix p q ≡ true → is_le (path_cmp p q) ≡ true
+prefix_le : (p q : Path) → is_prefix p q ≡ true → is_le (path_cmp p q) ≡ true
 prefix_le [] [] h = refl
 prefix_le [] (y ∷ q) h = refl
 prefix_le (x ∷ p) [] h = true_is_not (sym h)
@@ -39,7 +39,7 @@ prefix_le (x ∷ p) (y ∷ q) h =
     ∙ prefix_le p q both.1
 
 -- what lies between a path and one that begins with it begins with it too
-between_prefix : (p k m : List (List ℕ)) → is_prefix p m ≡ true → is_le (path_cmp p k) ≡ true → is_le (path_cmp k m) ≡ true → is_prefix p k ≡ true
+between_prefix : (p : Path) (k m : List (List ℕ)) → is_prefix p m ≡ true → is_le (path_cmp p k) ≡ true → is_le (path_cmp k m) ≡ true → is_prefix p k ≡ true
 between_prefix [] k m h a b = refl
 between_prefix (x ∷ p) [] m h a b = true_is_not (sym a)
 between_prefix (x ∷ p) (y ∷ k) [] h a b = true_is_not (sym h)
@@ -58,11 +58,11 @@ between_prefix (x ∷ p) (y ∷ k) (z ∷ m) h a b =
 pub same_number : (a b : ℕ) → (a == b) ≡ true → a ≡ b
 same_number a b h = (Decides-eqb a b).0 h
 
-abbrev pub start_at : ℕ → List (List ℕ) → Place
+abbrev pub start_at : ℕ → List (List ℕ) → DepthKey
 start_at depth path = record { depth = depth; path = path }
 
--- the places of the depth come behind the one at which they would start
-at_depth_le : (depth : ℕ) (path : List (List ℕ)) (k : Place) → is_at_depth depth path k ≡ true → is_le (place_cmp (start_at depth path) k) ≡ true
+-- the keys of the depth come after the one at which they would start
+at_depth_le : (depth : ℕ) (path : Path) (k : DepthKey) → is_at_depth depth path k ≡ true → is_le (depth_key_cmp (start_at depth path) k) ≡ true
 at_depth_le depth path k h =
     let both = and_true (k.depth == depth) (is_prefix path k.path) h in
     ap (λ (n : ℕ). is_le (ordering_then (nat_cmp n k.depth) (path_cmp path k.path))) (sym (same_number k.depth depth both.0))
@@ -75,7 +75,7 @@ less_le r e = ap is_le e
 then_less : (r s : Ordering) → r ≡ Greater → ordering_then r s ≡ Less → ⊥
 then_less r s e h = let g : Greater ≡ Less = sym (ap (λ (x : Ordering). ordering_then x s) e) ∙ h in cc
 
-at_depth_between : (depth : ℕ) (path : List (List ℕ)) (k m : Place) → is_at_depth depth path m ≡ true → is_le (place_cmp (start_at depth path) k) ≡ true → place_cmp k m ≡ Less → is_at_depth depth path k ≡ true
+at_depth_between : (depth : ℕ) (path : Path) (k m : DepthKey) → is_at_depth depth path m ≡ true → is_le (depth_key_cmp (start_at depth path) k) ≡ true → depth_key_cmp k m ≡ Less → is_at_depth depth path k ≡ true
 at_depth_between depth path k m h a b =
     let both = and_true (m.depth == depth) (is_prefix path m.path) h in
     let before : ordering_then (nat_cmp k.depth depth) (path_cmp k.path m.path) ≡ Less = ap (λ (n : ℕ). ordering_then (nat_cmp k.depth n) (path_cmp k.path m.path)) (sym (same_number m.depth depth both.0)) ∙ b in
@@ -88,42 +88,42 @@ at_depth_between depth path k m h a b =
       | Greater ↦ λ _ no. true_is_not (sym no)
     ] refl a
 
--- behind one that is not of the depth, none is
-none_behind : (depth : ℕ) (path : List (List ℕ)) (k : Place) (ks : List Place) → is_le (place_cmp (start_at depth path) k) ≡ true → is_at_depth depth path k ≡ false → AllByRecursion (λ y. place_cmp k y ≡ Less) ks → filter (is_at_depth depth path) ks ≡ []
-none_behind depth path k [] a fails h = refl
-none_behind depth path k (m ∷ ks) a fails h =
+-- after one that is not of the depth, none is
+none_after : (depth : ℕ) (path : Path) (k : DepthKey) (ks : List DepthKey) → is_le (depth_key_cmp (start_at depth path) k) ≡ true → is_at_depth depth path k ≡ false → AllByRecursion (λ y. depth_key_cmp k y ≡ Less) ks → filter (is_at_depth depth path) ks ≡ []
+none_after depth path k [] a fails h = refl
+none_after depth path k (m ∷ ks) a fails h =
     elim (is_at_depth depth path m) as (λ b. is_at_depth depth path m ≡ b → cond b (m ∷ filter (is_at_depth depth path) ks) (filter (is_at_depth depth path) ks) ≡ []) [
       | true ↦ λ yes. true_is_not (sym (at_depth_between depth path k m yes a h.0) ∙ fails)
-      | false ↦ λ _. none_behind depth path k ks a fails h.1
+      | false ↦ λ _. none_after depth path k ks a fails h.1
     ] refl
 
--- the entries from a place on
-abbrev pub from_place : Place → List (Place × Held) → List (Place × Held)
-from_place start es = filter (λ e. is_le (place_cmp start e.0) && true) es
+-- the entries from a key on
+abbrev pub from_place : DepthKey → List (DepthKey × StoredPrim) → List (DepthKey × StoredPrim)
+from_place start es = filter (λ e. is_le (depth_key_cmp start e.0) && true) es
 
-sorted_end : (xs ys : List Place) → IsStrictlySortedBy place_cmp (xs ++ ys) → IsStrictlySortedBy place_cmp ys
+sorted_end : (xs ys : List DepthKey) → IsStrictlySortedBy depth_key_cmp (xs ++ ys) → IsStrictlySortedBy depth_key_cmp ys
 unfolding IsStrictlySortedBy
 sorted_end [] ys h = h
 sorted_end (x ∷ xs) ys h = sorted_end xs ys h.1
 
-sorted_first : (x : Place) (xs : List Place) → IsStrictlySortedBy place_cmp (x ∷ xs) → AllByRecursion (λ y. place_cmp x y ≡ Less) xs
+sorted_first : (x : DepthKey) (xs : List DepthKey) → IsStrictlySortedBy depth_key_cmp (x ∷ xs) → AllByRecursion (λ y. depth_key_cmp x y ≡ Less) xs
 unfolding IsStrictlySortedBy
 sorted_first x xs h = h.0
 
-keys_from : (start : Place) (es : List (Place × Held)) → keys_of (from_place start es) ≡ filter (λ k. is_le (place_cmp start k) && true) (keys_of es)
+keys_from : (start : DepthKey) (es : List (DepthKey × StoredPrim)) → keys_of (from_place start es) ≡ filter (λ k. is_le (depth_key_cmp start k) && true) (keys_of es)
 keys_from start [] = refl
 keys_from start (e ∷ es) =
-    elim (is_le (place_cmp start e.0)) as (λ b. keys_of (cond (b && true) (e ∷ from_place start es) (from_place start es)) ≡ cond (b && true) (e.0 ∷ filter (λ k. is_le (place_cmp start k) && true) (keys_of es)) (filter (λ k. is_le (place_cmp start k) && true) (keys_of es))) [
-      | true ↦ ap (λ (ks : List Place). e.0 ∷ ks) (keys_from start es)
+    elim (is_le (depth_key_cmp start e.0)) as (λ b. keys_of (cond (b && true) (e ∷ from_place start es) (from_place start es)) ≡ cond (b && true) (e.0 ∷ filter (λ k. is_le (depth_key_cmp start k) && true) (keys_of es)) (filter (λ k. is_le (depth_key_cmp start k) && true) (keys_of es))) [
+      | true ↦ ap (λ (ks : List DepthKey). e.0 ∷ ks) (keys_from start es)
       | false ↦ keys_from start es
     ]
 
 -- those of the depth are among the entries from the start on
-all_from : (depth : ℕ) (path : List (List ℕ)) (ks : List Place) → filter (is_at_depth depth path) (filter (λ k. is_le (place_cmp (start_at depth path) k) && true) ks) ≡ filter (is_at_depth depth path) ks
+all_from : (depth : ℕ) (path : Path) (ks : List DepthKey) → filter (is_at_depth depth path) (filter (λ k. is_le (depth_key_cmp (start_at depth path) k) && true) ks) ≡ filter (is_at_depth depth path) ks
 all_from depth path [] = refl
 all_from depth path (k ∷ ks) =
-    elim (is_le (place_cmp (start_at depth path) k)) as (λ b. is_le (place_cmp (start_at depth path) k) ≡ b → filter (is_at_depth depth path) (cond (b && true) (k ∷ filter (λ q. is_le (place_cmp (start_at depth path) q) && true) ks) (filter (λ q. is_le (place_cmp (start_at depth path) q) && true) ks)) ≡ cond (is_at_depth depth path k) (k ∷ filter (is_at_depth depth path) ks) (filter (is_at_depth depth path) ks)) [
-      | true ↦ λ _. ap (λ (rest : List Place). cond (is_at_depth depth path k) (k ∷ rest) rest) (all_from depth path ks)
+    elim (is_le (depth_key_cmp (start_at depth path) k)) as (λ b. is_le (depth_key_cmp (start_at depth path) k) ≡ b → filter (is_at_depth depth path) (cond (b && true) (k ∷ filter (λ q. is_le (depth_key_cmp (start_at depth path) q) && true) ks) (filter (λ q. is_le (depth_key_cmp (start_at depth path) q) && true) ks)) ≡ cond (is_at_depth depth path k) (k ∷ filter (is_at_depth depth path) ks) (filter (is_at_depth depth path) ks)) [
+      | true ↦ λ _. ap (λ (rest : List DepthKey). cond (is_at_depth depth path k) (k ∷ rest) rest) (all_from depth path ks)
       | false ↦ λ no.
           all_from depth path ks
           ∙ elim (is_at_depth depth path k) as (λ b. is_at_depth depth path k ≡ b → filter (is_at_depth depth path) ks ≡ cond b (k ∷ filter (is_at_depth depth path) ks) (filter (is_at_depth depth path) ks)) [
@@ -132,17 +132,17 @@ all_from depth path (k ∷ ks) =
           ] refl
     ] refl
 
-passes_there : (test : Place → Bool) (ks front rest : List Place) (k : Place) → filter test ks ≡ front ++ k ∷ rest → test k ≡ true
+passes_there : (test : DepthKey → Bool) (ks front rest : List DepthKey) (k : DepthKey) → filter test ks ≡ front ++ k ∷ rest → test k ≡ true
 passes_there test ks front rest k is = in_middle front (subst (AllByRecursion (λ q. test q ≡ true)) is (all_pass ks))
   where
-    all_pass : (qs : List Place) → AllByRecursion (λ q. test q ≡ true) (filter test qs)
+    all_pass : (qs : List DepthKey) → AllByRecursion (λ q. test q ≡ true) (filter test qs)
     all_pass [] = tt
     all_pass (q ∷ qs) = elim (test q) as (λ b. test q ≡ b → AllByRecursion (λ x. test x ≡ true) (cond b (q ∷ filter test qs) (filter test qs))) [
       | true ↦ λ yes. (yes, all_pass qs)
       | false ↦ λ _. all_pass qs
     ] refl
 
-    in_middle : (front : List Place) → AllByRecursion (λ q. test q ≡ true) (front ++ k ∷ rest) → test k ≡ true
+    in_middle : (front : List DepthKey) → AllByRecursion (λ q. test q ≡ true) (front ++ k ∷ rest) → test k ≡ true
     in_middle [] h = h.0
     in_middle (x ∷ front) h = in_middle front h.1
 
@@ -151,29 +151,29 @@ and_first true h = refl
 and_first false h = h
 
 -- where the first entry that is not of the depth ends the walk, those before it are all
-pub walk_stops : (depth : ℕ) (path : List (List ℕ)) (es front rest : List (Place × Held)) (e : Place × Held) → IsStrictlySortedBy place_cmp (keys_of es) → from_place (start_at depth path) es ≡ front ++ e ∷ rest → is_at_depth depth path e.0 ≡ false
+pub walk_stops : (depth : ℕ) (path : Path) (es front rest : List (DepthKey × StoredPrim)) (e : DepthKey × StoredPrim) → IsStrictlySortedBy depth_key_cmp (keys_of es) → from_place (start_at depth path) es ≡ front ++ e ∷ rest → is_at_depth depth path e.0 ≡ false
     → filter (is_at_depth depth path) (keys_of es) ≡ filter (is_at_depth depth path) (keys_of front)
 walk_stops depth path es front rest e sorted is fails =
-    let test : Place → Bool = λ k. is_le (place_cmp (start_at depth path) k) && true in
+    let test : DepthKey → Bool = λ k. is_le (depth_key_cmp (start_at depth path) k) && true in
     let ks : filter test (keys_of es) ≡ keys_of front ++ e.0 ∷ keys_of rest = sym (keys_from (start_at depth path) es) ∙ ap keys_of is ∙ keys_append front (e ∷ rest) in
-    let all_sorted : IsStrictlySortedBy place_cmp (keys_of front ++ e.0 ∷ keys_of rest) = subst (IsStrictlySortedBy place_cmp) ks (IsStrictlySortedBy-filter place_cmp test (keys_of es) sorted) in
-    let behind = sorted_first e.0 (keys_of rest) (sorted_end (keys_of front) (e.0 ∷ keys_of rest) all_sorted) in
-    let start = and_first (is_le (place_cmp (start_at depth path) e.0)) (passes_there test (keys_of es) (keys_of front) (keys_of rest) e.0 ks) in
+    let all_sorted : IsStrictlySortedBy depth_key_cmp (keys_of front ++ e.0 ∷ keys_of rest) = subst (IsStrictlySortedBy depth_key_cmp) ks (IsStrictlySortedBy-filter depth_key_cmp test (keys_of es) sorted) in
+    let after = sorted_first e.0 (keys_of rest) (sorted_end (keys_of front) (e.0 ∷ keys_of rest) all_sorted) in
+    let start = and_first (is_le (depth_key_cmp (start_at depth path) e.0)) (passes_there test (keys_of es) (keys_of front) (keys_of rest) e.0 ks) in
     sym (all_from depth path (keys_of es))
     ∙ ap (filter (is_at_depth depth path)) ks
     ∙ filter-append (is_at_depth depth path) (keys_of front) (e.0 ∷ keys_of rest)
-    ∙ ap (λ (qs : List Place). filter (is_at_depth depth path) (keys_of front) ++ qs) (ap (λ b. cond b (e.0 ∷ filter (is_at_depth depth path) (keys_of rest)) (filter (is_at_depth depth path) (keys_of rest))) fails ∙ none_behind depth path e.0 (keys_of rest) start fails behind)
+    ∙ ap (λ (qs : List DepthKey). filter (is_at_depth depth path) (keys_of front) ++ qs) (ap (λ b. cond b (e.0 ∷ filter (is_at_depth depth path) (keys_of rest)) (filter (is_at_depth depth path) (keys_of rest))) fails ∙ none_after depth path e.0 (keys_of rest) start fails after)
     ∙ nothing (filter (is_at_depth depth path) (keys_of front))
   where
-    keys_append : (xs ys : List (Place × Held)) → keys_of (xs ++ ys) ≡ keys_of xs ++ keys_of ys
+    keys_append : (xs ys : List (DepthKey × StoredPrim)) → keys_of (xs ++ ys) ≡ keys_of xs ++ keys_of ys
     keys_append [] ys = refl
-    keys_append (x ∷ xs) ys = ap (λ (zs : List Place). x.0 ∷ zs) (keys_append xs ys)
+    keys_append (x ∷ xs) ys = ap (λ (zs : List DepthKey). x.0 ∷ zs) (keys_append xs ys)
 
-    nothing : (xs : List Place) → xs ++ [] ≡ xs
+    nothing : (xs : List DepthKey) → xs ++ [] ≡ xs
     nothing [] = refl
-    nothing (x ∷ xs) = ap (λ (ys : List Place). x ∷ ys) (nothing xs)
+    nothing (x ∷ xs) = ap (λ (ys : List DepthKey). x ∷ ys) (nothing xs)
 
 -- and so they are where the walk comes to the end
-pub walk_ends : (depth : ℕ) (path : List (List ℕ)) (es front : List (Place × Held)) → from_place (start_at depth path) es ≡ front → filter (is_at_depth depth path) (keys_of es) ≡ filter (is_at_depth depth path) (keys_of front)
+pub walk_ends : (depth : ℕ) (path : Path) (es front : List (DepthKey × StoredPrim)) → from_place (start_at depth path) es ≡ front → filter (is_at_depth depth path) (keys_of es) ≡ filter (is_at_depth depth path) (keys_of front)
 walk_ends depth path es front is =
     sym (all_from depth path (keys_of es)) ∙ ap (filter (is_at_depth depth path)) (sym (keys_from (start_at depth path) es) ∙ ap keys_of is)

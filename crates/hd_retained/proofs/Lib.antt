@@ -1,4 +1,4 @@
-pub mod Places
+pub mod DepthKeys
 pub mod Kept
 pub mod Authoring
 pub mod Listing

@@ -15,10 +15,12 @@ use Rattle.hd_layer.specs.declared.spec.RawValue.{RawValue}
 use Rattle.hd_layer.specs.WellFormed.{is_below_root, is_property, is_prim_spec, are_distinct}
 use Rattle.hd_schema.proofs.Putting.{Holds, none_held}
 use Rattle.hd_schema.proofs.Lookups.{and_true, true_is_not}
-use Rattle.hd_retained.specs.declared.held.Held.{Held}
+use Rattle.hd_retained.specs.declared.stored.StoredPrim.{StoredPrim}
 use Rattle.hd_retained.specs.Layers.{Properties, LayerPrim, named_value, properties_of, container_of}
-use Rattle.hd_retained.specs.Indexed.{IsHeld, prim_of}
+use Rattle.hd_retained.specs.inner.Indexed.{IsStored, prim_of}
 use Rattle.hd_retained.proofs.Authoring.{container_is}
+use Rattle.hd_path.specs.Paths.{Path}
+use Rattle.hd_path.specs.Names.{Name}
 
 pub and_is : (a b : Bool) → a ≡ true → b ≡ true → (a && b) ≡ true
 and_is a b p q = ap (λ t. t && b) p ∙ q
@@ -44,7 +46,7 @@ all_last fact (x ∷ ps) p h here =
     let both = and_true (fact x) (list_all fact ps) h in
     and_is (fact x) (list_all fact (ps ++ p ∷ [])) both.0 (all_last fact ps p both.1 here)
 
-fewer_named : (test : Property → Bool) (name : List ℕ) (ps : List Property) → list_any (bytes_eq name) (names ps) ≡ false → list_any (bytes_eq name) (names (filter test ps)) ≡ false
+fewer_named : (test : Property → Bool) (name : Name) (ps : List Property) → list_any (bytes_eq name) (names ps) ≡ false → list_any (bytes_eq name) (names (filter test ps)) ≡ false
 fewer_named test name [] h = refl
 fewer_named test name (p ∷ ps) h =
     elim (bytes_eq name p.name) as (λ b. bytes_eq name p.name ≡ b → (b || list_any (bytes_eq name) (names ps)) ≡ false → list_any (bytes_eq name) (names (cond (test p) (p ∷ filter test ps) (filter test ps))) ≡ false) [
@@ -68,14 +70,14 @@ distinct_filter test (p ∷ ps) h =
       | false ↦ distinct_filter test ps both.1
     ]
 
-bytes_turned : (a b : List ℕ) → bytes_eq a b ≡ false → bytes_eq b a ≡ false
+bytes_turned : (a b : Name) → bytes_eq a b ≡ false → bytes_eq b a ≡ false
 bytes_turned a b h =
     elim (bytes_eq b a) as (λ t. bytes_eq b a ≡ t → t ≡ false) [
       | true ↦ λ same. sym ((bytes_decides a b).1 (sym ((bytes_decides b a).0 same))) ∙ h
       | false ↦ λ _. refl
     ] refl
 
-named_last : (name : List ℕ) (ps : List Property) (p : Property) → list_any (bytes_eq name) (names ps) ≡ false → bytes_eq name p.name ≡ false → list_any (bytes_eq name) (names (ps ++ p ∷ [])) ≡ false
+named_last : (name : Name) (ps : List Property) (p : Property) → list_any (bytes_eq name) (names ps) ≡ false → bytes_eq name p.name ≡ false → list_any (bytes_eq name) (names (ps ++ p ∷ [])) ≡ false
 named_last name [] p h other = ap (λ b. b || false) other
 named_last name (x ∷ ps) p h other =
     elim (bytes_eq name x.name) as (λ b. (b || list_any (bytes_eq name) (names ps)) ≡ false → (b || list_any (bytes_eq name) (names (ps ++ p ∷ []))) ≡ false) [
@@ -97,7 +99,7 @@ distinct_last (x ∷ ps) p h new =
     (distinct_last ps p both.1 apart.1)
 
 -- among the others none has the name
-pub others_named : (name : List ℕ) (ps : List Property) → list_any (bytes_eq name) (names (others name ps)) ≡ false
+pub others_named : (name : Name) (ps : List Property) → list_any (bytes_eq name) (names (others name ps)) ≡ false
 others_named name [] = refl
 others_named name (p ∷ ps) =
     elim (bytes_eq name p.name) as (λ b. bytes_eq name p.name ≡ b → list_any (bytes_eq name) (names (cond (not b) (p ∷ others name ps) (others name ps))) ≡ false) [
@@ -108,7 +110,7 @@ others_named name (p ∷ ps) =
 names_tie : (p q : List ℕ) → eq_by_cmp (slice_cmp nat_cmp) p q ≡ true → p ≡ q
 names_tie p q h = (bytes_decides p q).0 (texts_ties p q ∙ h)
 
-find_others : (name q : List ℕ) (ps : List Property) → find (slice_cmp nat_cmp) q (map named_value (others name ps)) ≡ cond (eq_by_cmp (slice_cmp nat_cmp) q name) None (find (slice_cmp nat_cmp) q (map named_value ps))
+find_others : (name : Name) (q : List ℕ) (ps : List Property) → find (slice_cmp nat_cmp) q (map named_value (others name ps)) ≡ cond (eq_by_cmp (slice_cmp nat_cmp) q name) None (find (slice_cmp nat_cmp) q (map named_value ps))
 find_others name q [] = elim (eq_by_cmp (slice_cmp nat_cmp) q name) as (λ b. ◌≡◌ {A = Option RawValue} None (cond b None None)) [ true ↦ refl | false ↦ refl ]
 find_others name q (p ∷ ps) =
     elim (bytes_eq name p.name) as (λ b. bytes_eq name p.name ≡ b → find (slice_cmp nat_cmp) q (map named_value (cond (not b) (p ∷ others name ps) (others name ps))) ≡ cond (eq_by_cmp (slice_cmp nat_cmp) q name) None (cond (eq_by_cmp (slice_cmp nat_cmp) q p.name) (Some p.value) (find (slice_cmp nat_cmp) q (map named_value ps)))) [
@@ -132,7 +134,7 @@ exact : (p q : List ℕ) → eq_by_cmp (slice_cmp nat_cmp) p p ≡ true
 exact p q = (eq_by_cmp_equiv nat_list_cmp_total).refl p
 
 -- the others are what is left without the name
-pub others_removed : (name : List ℕ) (ps : List Property) → properties_of (others name ps) ≡ remove (properties_of ps) name
+pub others_removed : (name : Name) (ps : List Property) → properties_of (others name ps) ≡ remove (properties_of ps) name
 others_removed name ps = same_map nat_list_cmp_total (slice_cmp-IsAntisymmetric nat_cmp-IsAntisymmetric) (properties_of (others name ps)) (remove (properties_of ps) name) (λ q.
     get-from_entries nat_list_cmp_total (map named_value (others name ps)) q
     ∙ find_others name q ps
@@ -156,7 +158,7 @@ others_inserted p ps =
     again false o = refl
 
 -- a prim without properties
-pub empty_held : (h : Held) → h.properties ≡ [] → h.values ≡ empty → IsHeld h
+pub empty_held : (h : StoredPrim) → h.properties ≡ [] → h.values ≡ empty → IsStored h
 empty_held h none values = record {
   formed = ap (list_all is_property) none;
   distinct = ap (λ (ps : List Property). are_distinct (names ps)) none;
@@ -164,7 +166,7 @@ empty_held h none values = record {
 }
 
 -- a prim whose values are those of a well formed one
-pub spec_held : (h : Held) (spec : PrimSpec) → is_prim_spec spec ≡ true → h.properties ≡ spec.properties → Holds h.values spec.properties → IsHeld h
+pub spec_held : (h : StoredPrim) (spec : PrimSpec) → is_prim_spec spec ≡ true → h.properties ≡ spec.properties → Holds h.values spec.properties → IsStored h
 spec_held h spec formed same holds =
     let last = and_true _ (are_distinct (names spec.properties)) formed in
     let rest = and_true _ (list_all is_property spec.properties) last.0 in
@@ -174,7 +176,7 @@ spec_held h spec formed same holds =
       values = container_is h.values spec.properties holds ∙ ap (λ (ps : List Property). container_of (properties_of ps)) (sym same);
     }
 
-pub below_root : (path : List (List ℕ)) → path ≢ [] → is_below_root path ≡ true
+pub below_root : (path : Path) → path ≢ [] → is_below_root path ≡ true
 below_root [] other = absurd (other refl)
 below_root (name ∷ path) other = lt-ltb 0 (length (name ∷ path)) (omega arith)
 
@@ -183,14 +185,14 @@ pub made_spec : (spec : PrimSpec) → is_below_root spec.path ≡ true → list_
 made_spec spec below formed distinct =
     and_is _ (are_distinct (names spec.properties)) (and_is (is_below_root spec.path) (list_all is_property spec.properties) below formed) distinct
 
-pub others_are : (kept items ps : List Property) (text name : List ℕ) → kept ≡ others text items → items ≡ ps → text ≡ name → kept ≡ others name ps
+pub others_are : (kept items ps : List Property) (text : List ℕ) (name : Name) → kept ≡ others text items → items ≡ ps → text ≡ name → kept ≡ others name ps
 others_are kept items ps text name is same same_name = is ∙ ap (others text) same ∙ ap (λ (n : List ℕ). others n ps) same_name
 
 -- a prim that is one is an equal one
-pub prim_from : (r : Result Held AllocError) (p q : LayerPrim) → IfOk r (λ h. prim_of h ≡ p) → p ≡ q → IfOk r (λ h. prim_of h ≡ q)
+pub prim_from : (r : Result StoredPrim AllocError) (p q : LayerPrim) → IfOk r (λ h. prim_of h ≡ p) → p ≡ q → IfOk r (λ h. prim_of h ≡ q)
 prim_from (Ok h) p q is same = is ∙ same
 prim_from (Err e) p q is same = tt
 
-pub pushed_are : (pushed kept items ps : List Property) (text name : List ℕ) (copied p : Property) → pushed ≡ kept ++ copied ∷ [] → kept ≡ others text items → items ≡ ps → text ≡ name → copied ≡ p → pushed ≡ others name ps ++ p ∷ []
+pub pushed_are : (pushed kept items ps : List Property) (text : List ℕ) (name : Name) (copied p : Property) → pushed ≡ kept ++ copied ∷ [] → kept ≡ others text items → items ≡ ps → text ≡ name → copied ≡ p → pushed ≡ others name ps ++ p ∷ []
 pushed_are pushed kept items ps text name copied p more is same same_name same_copy =
     more ∙ ap (λ (xs : List Property). xs ++ copied ∷ []) (others_are kept items ps text name is same same_name) ∙ ap (λ (x : Property). others name ps ++ x ∷ []) same_copy

@@ -17,26 +17,23 @@ use Rattle.hd_layer.specs.declared.spec.PrimSpec.{PrimSpec}
 use Rattle.hd_layer.specs.declared.spec.LayerSpec.{LayerSpec}
 use Rattle.hd_layer.specs.WellFormed.{is_layer, is_prim_spec, is_below_root, is_property, are_distinct, ascend, has_parent}
 use Rattle.hd_schema.proofs.Lookups.{and_true, true_is_not}
-use Rattle.hd_path.specs.Paths.{IsPath, path_cmp}
+use Rattle.hd_path.specs.Paths.{Path, IsPath, path_cmp}
 use Rattle.hd_schema.specs.Authored.{authored_at}
 use Rattle.hd_scene.specs.Scenes.{kind_at, value_at, IsClosed}
 use Rattle.hd_scene.specs.declared.prims.Entry.{Entry}
 use Rattle.hd_scene.proofs.Children.{path_cmp_total, path_cmp_exact}
 use Rattle.hd_scene.proofs.Closing.{tied}
-use Rattle.hd_retained.specs.declared.held.Place.{Place}
-use Rattle.hd_retained.specs.declared.held.Held.{Held}
-use Rattle.hd_retained.specs.Layers.{LayerPrim, Layer, spelled_prim, prim_at_path, entry_of, kind_in, listed, layer_of, scene_of}
+use Rattle.hd_retained.specs.declared.stored.DepthKey.{DepthKey}
+use Rattle.hd_retained.specs.declared.stored.StoredPrim.{StoredPrim}
+use Rattle.hd_retained.specs.Layers.{LayerPrim, Layer, spelled_prim, prim_at_path, entry_of, kind_in, property_list, layer_of, scene_of}
 use Rattle.hd_retained.specs.Laws.{IsAsSpelled}
-use Rattle.hd_retained.specs.Indexed.{place_cmp, IsSound}
+use Rattle.hd_retained.specs.inner.Indexed.{depth_key_cmp, IsSound}
 use Rattle.hd_retained.proofs.Authoring.{container_holds, container_authors}
 use Rattle.hd_retained.proofs.Kept.{get-scene}
 use Rattle.hd_retained.proofs.Listing.{names}
 use Rattle.hd_retained.proofs.Closed.{closed_by, parent_is}
 
-abbrev Names : Type 0
-Names = List (List ℕ)
-
-abbrev paths_of : List PrimSpec → List Names
+abbrev paths_of : List PrimSpec → List Path
 paths_of ps = map (λ (p : PrimSpec). p.path) ps
 
 -- the prims of some of a layer
@@ -45,13 +42,13 @@ layer_from ps = from_entries (map prim_at_path ps)
 
 spelled_keys : (ps : List PrimSpec) → keys_of (map prim_at_path ps) ≡ paths_of ps
 spelled_keys [] = refl
-spelled_keys (p ∷ ps) = ap (λ (qs : List Names). p.path ∷ qs) (spelled_keys ps)
+spelled_keys (p ∷ ps) = ap (λ (qs : List Path). p.path ∷ qs) (spelled_keys ps)
 
-spelled_there : (ps : List PrimSpec) (q : Names) → is_some (get (layer_from ps) q) ≡ list_any (eq_by_cmp path_cmp q) (paths_of ps)
+spelled_there : (ps : List PrimSpec) (q : Path) → is_some (get (layer_from ps) q) ≡ list_any (eq_by_cmp path_cmp q) (paths_of ps)
 spelled_there ps q = ap is_some (get-from_entries path_cmp_total (map prim_at_path ps) q) ∙ is_some-find path_cmp q (map prim_at_path ps) ∙ ap (list_any (eq_by_cmp path_cmp q)) (spelled_keys ps)
 
 -- a fact of each path is one of the path that is listed
-all_listed : (fact : Names → Bool) (ps : List Names) (q : Names) → list_all fact ps ≡ true → list_any (eq_by_cmp path_cmp q) ps ≡ true → fact q ≡ true
+all_listed : (fact : Path → Bool) (ps : List Path) (q : Path) → list_all fact ps ≡ true → list_any (eq_by_cmp path_cmp q) ps ≡ true → fact q ≡ true
 all_listed fact [] q all there = true_is_not (sym there)
 all_listed fact (p ∷ ps) q all there =
     let both = and_true (fact p) (list_all fact ps) all in
@@ -88,14 +85,14 @@ not_there : (b : Bool) → (b ≡ true → ⊥) → b ≡ false
 not_there true h = absurd (h refl)
 not_there false h = refl
 
--- each prim of a layer stands at a path
+-- each prim of a layer is at a path
 abbrev pub ArePaths : Layer → Type 0
-ArePaths layer = (path : Names) → is_some (get layer path) ≡ true → IsPath path
+ArePaths layer = (path : Path) → is_some (get layer path) ≡ true → IsPath path
 
 pub no_paths : ArePaths (layer_from [])
 no_paths path there = true_is_not (sym there ∙ spelled_there [] path)
 
-pub next_paths : (layer : Layer) (at : Names) (p : LayerPrim) → ArePaths layer → IsPath at → ArePaths (insert layer at p)
+pub next_paths : (layer : Layer) (at : Path) (p : LayerPrim) → ArePaths layer → IsPath at → ArePaths (insert layer at p)
 next_paths layer at p paths is path there =
     elim (eq_by_cmp path_cmp path at) as (λ b. eq_by_cmp path_cmp path at ≡ b → is_some (cond b (Some p) (get layer path)) ≡ true → IsPath path) [
       | true ↦ λ same _. subst IsPath (sym (tied path at same)) is
@@ -106,17 +103,17 @@ next_paths layer at p paths is path there =
 pub spelled_closed : (l : LayerSpec) → is_layer l ≡ true → ArePaths (layer_of l) → IsClosed (scene_of (layer_of l))
 spelled_closed l h are_paths =
     let p = parts l h in
-    let paths : List Names = paths_of l.prims in
+    let paths : List Path = paths_of l.prims in
     let below_root : list_all is_below_root paths ≡ true = paths_below_root l.prims p.formed in
     closed_by (layer_of l)
     (not_there (is_some (get (layer_of l) [])) (λ there. true_is_not (sym (all_listed is_below_root paths [] below_root (sym (spelled_there l.prims []) ∙ there)))))
     (λ path name below there.
-    let q : Names = path ++ name ∷ below ∷ [] in
-    let listed : list_any (eq_by_cmp path_cmp q) paths ≡ true = sym (spelled_there l.prims q) ∙ there in
+    let q : Path = path ++ name ∷ below ∷ [] in
+    let property_list : list_any (eq_by_cmp path_cmp q) paths ≡ true = sym (spelled_there l.prims q) ∙ there in
     let parent = parent_is q path name below refl in
-    let has : has_parent paths q ≡ true = all_listed (has_parent paths) paths q p.parents listed in
+    let has : has_parent paths q ≡ true = all_listed (has_parent paths) paths q p.parents property_list in
     spelled_there l.prims (path ++ name ∷ [])
-    ∙ sym (ap (λ b. b || list_any (λ other. is_eq (path_cmp (take (length q - 1) q) other)) paths) (not_one (length q) parent.1) ∙ ap (λ (z : Names). list_any (λ other. is_eq (path_cmp z other)) paths) parent.0)
+    ∙ sym (ap (λ b. b || list_any (λ other. is_eq (path_cmp (take (length q - 1) q) other)) paths) (not_one (length q) parent.1) ∙ ap (λ (z : Path). list_any (λ other. is_eq (path_cmp z other)) paths) parent.0)
     ∙ has)
     are_paths
   where
@@ -128,20 +125,20 @@ is_less Less h = refl
 is_less Equal h = cc
 is_less Greater h = cc
 
--- a path behind another one is not that
-behind : (p q : Names) → is_lt (path_cmp p q) ≡ true → eq_by_cmp path_cmp q p ≡ false
-behind p q h = ap is_eq (path_cmp_total.antisymm q p ∙ ap ordering_reverse (is_less (path_cmp p q) h))
+-- a path after another one is not that
+after : (p q : Path) → is_lt (path_cmp p q) ≡ true → eq_by_cmp path_cmp q p ≡ false
+after p q h = ap is_eq (path_cmp_total.antisymm q p ∙ ap ordering_reverse (is_less (path_cmp p q) h))
 
-last_of : (fact : Names → Bool) (front rest : List PrimSpec) (p : PrimSpec) → list_all fact (paths_of (front ++ p ∷ rest)) ≡ true → fact p.path ≡ true
+last_of : (fact : Path → Bool) (front rest : List PrimSpec) (p : PrimSpec) → list_all fact (paths_of (front ++ p ∷ rest)) ≡ true → fact p.path ≡ true
 last_of fact [] rest p h = (and_true (fact p.path) (list_all fact (paths_of rest)) h).0
 last_of fact (x ∷ front) rest p h = last_of fact front rest p (and_true (fact x.path) (list_all fact (paths_of (front ++ p ∷ rest))) h).1
 
--- a path is new behind those before it
+-- a path is new after those before it
 new_path : (front rest : List PrimSpec) (p : PrimSpec) → ascend (paths_of (front ++ p ∷ rest)) ≡ true → find path_cmp p.path (map prim_at_path front) ≡ None
 new_path [] rest p h = refl
 new_path (x ∷ front) rest p h =
     let both = and_true (list_all (λ next. is_lt (path_cmp x.path next)) (paths_of (front ++ p ∷ rest))) (ascend (paths_of (front ++ p ∷ rest))) h in
-    ap (λ b. cond b (Some (spelled_prim x)) (find path_cmp p.path (map prim_at_path front))) (behind x.path p.path (last_of (λ next. is_lt (path_cmp x.path next)) front rest p both.0))
+    ap (λ b. cond b (Some (spelled_prim x)) (find path_cmp p.path (map prim_at_path front))) (after x.path p.path (last_of (λ next. is_lt (path_cmp x.path next)) front rest p both.0))
     ∙ new_path front rest p both.1
 
 split_next : (ps : List PrimSpec) (i : ℕ) (p : PrimSpec) → i < length ps → p ≡ get_or ps i p → take i ps ++ p ∷ drop (suc i) ps ≡ ps
@@ -164,19 +161,19 @@ pub next_layer : (l : LayerSpec) (items : List PrimSpec) (i : ℕ) (p : PrimSpec
 next_layer l items i p h same below is =
     let ascends : ascend (paths_of (take i items ++ p ∷ drop (suc i) items)) ≡ true = ap (λ (ps : List PrimSpec). ascend (paths_of ps)) (split_next items i p below is ∙ same) ∙ (parts l h).ascends in
     sym (from_entries_push path_cmp_total path_cmp_exact (map prim_at_path (take i items)) p.path (spelled_prim p) (new_path (take i items) (drop (suc i) items) p ascends))
-    ∙ ap (λ (es : List (Names × LayerPrim)). from_entries {R = path_cmp} es) (sym (map-append prim_at_path (take i items) (p ∷ [])) ∙ ap (map prim_at_path) (sym (take_more items i p below ∙ ap (λ (x : PrimSpec). take i items ++ x ∷ []) (sym is))))
+    ∙ ap (λ (es : List (Path × LayerPrim)). from_entries {R = path_cmp} es) (sym (map-append prim_at_path (take i items) (p ∷ [])) ∙ ap (map prim_at_path) (sym (take_more items i p below ∙ ap (λ (x : PrimSpec). take i items ++ x ∷ []) (sym is))))
 
-pub empty_sound : (m : BTreeMap Place Held) → m.entries ≡ [] → IsSound m
+pub empty_sound : (m : BTreeMap DepthKey StoredPrim) → m.entries ≡ [] → IsSound m
 empty_sound m none = record {
-  placed = λ q there. true_is_not (sym there ∙ ap (λ (es : List (Place × Held)). is_some (lookup (λ k. is_eq (place_cmp q k)) es)) none);
-  held = λ q h is. absurd (nothing h (sym is ∙ ap (lookup (λ k. is_eq (place_cmp q k))) none));
+  placed = λ q there. true_is_not (sym there ∙ ap (λ (es : List (DepthKey × StoredPrim)). is_some (lookup (λ k. is_eq (depth_key_cmp q k)) es)) none);
+  stored = λ q h is. absurd (nothing h (sym is ∙ ap (lookup (λ k. is_eq (depth_key_cmp q k))) none));
 }
   where
-    nothing : (h : Held) → Some h ≡ None → ⊥
+    nothing : (h : StoredPrim) → Some h ≡ None → ⊥
     nothing h e = cc
 
 -- a fact of each path is one of the path of a prim of the list
-all_of_prims : (fact : Names → Bool) (ps : List PrimSpec) (p : PrimSpec) (k : ℕ) → list_all fact (paths_of ps) ≡ true → k < length ps → slice_index_or ps k p ≡ p → fact p.path ≡ true
+all_of_prims : (fact : Path → Bool) (ps : List PrimSpec) (p : PrimSpec) (k : ℕ) → list_all fact (paths_of ps) ≡ true → k < length ps → slice_index_or ps k p ≡ p → fact p.path ≡ true
 all_of_prims fact [] p k all below is = absurd (omega arith)
 all_of_prims fact (x ∷ ps) p zero all below is = ap (λ (q : PrimSpec). fact q.path) (sym is) ∙ (and_true (fact x.path) (list_all fact (paths_of ps)) all).0
 all_of_prims fact (x ∷ ps) p (suc k) all below is = all_of_prims fact ps p k (and_true (fact x.path) (list_all fact (paths_of ps)) all).1 (omega arith) is
@@ -189,32 +186,32 @@ found_spelled (x ∷ ps) p zero ascends below is =
     ∙ ap (λ b. cond b (Some (spelled_prim p)) (find path_cmp p.path (map prim_at_path ps))) ((eq_by_cmp_equiv path_cmp_total).refl p.path)
 found_spelled (x ∷ ps) p (suc k) ascends below is =
     let both = and_true (list_all (λ next. is_lt (path_cmp x.path next)) (paths_of ps)) (ascend (paths_of ps)) ascends in
-    ap (λ b. cond b (Some (spelled_prim x)) (find path_cmp p.path (map prim_at_path ps))) (behind x.path p.path (all_of_prims (λ next. is_lt (path_cmp x.path next)) ps p k both.0 (omega arith) is))
+    ap (λ b. cond b (Some (spelled_prim x)) (find path_cmp p.path (map prim_at_path ps))) (after x.path p.path (all_of_prims (λ next. is_lt (path_cmp x.path next)) ps p k both.0 (omega arith) is))
     ∙ found_spelled ps p k both.1 (omega arith) is
 
 -- what the scene of a layer has at a path
-pub scene_kinds : (layer : Layer) (path : Names) → kind_at (scene_of layer) path ≡ kind_in layer path
+pub scene_kinds : (layer : Layer) (path : Path) → kind_at (scene_of layer) path ≡ kind_in layer path
 scene_kinds layer path = ap (option_map (λ (e : Entry). e.kind)) (get-scene layer path) ∙ inside (get layer path)
   where
     inside : (o : Option LayerPrim) → option_map (λ (e : Entry). e.kind) (option_map entry_of o) ≡ option_map (λ (p : LayerPrim). p.kind) o
     inside None = refl
     inside (Some p) = refl
 
-pub scene_values : (layer : Layer) (path at : Names) → value_at (scene_of layer) path at ≡ option_and_then (λ (p : LayerPrim). authored_at (listed p.properties) at) (get layer path)
+pub scene_values : (layer : Layer) (path at : Path) → value_at (scene_of layer) path at ≡ option_and_then (λ (p : LayerPrim). authored_at (property_list p.properties) at) (get layer path)
 scene_values layer path at = ap (option_and_then (λ (e : Entry). get e.values at)) (get-scene layer path) ∙ inside (get layer path)
   where
-    inside : (o : Option LayerPrim) → option_and_then (λ (e : Entry). get e.values at) (option_map entry_of o) ≡ option_and_then (λ (p : LayerPrim). authored_at (listed p.properties) at) o
+    inside : (o : Option LayerPrim) → option_and_then (λ (e : Entry). get e.values at) (option_map entry_of o) ≡ option_and_then (λ (p : LayerPrim). authored_at (property_list p.properties) at) o
     inside None = refl
     inside (Some p) = container_holds p.properties at
 
 -- a text spells its prims and no other
 pub layer_as_spelled : (l : LayerSpec) → is_layer l ≡ true → IsAsSpelled l (layer_of l)
 layer_as_spelled l h =
-    let there : (p : PrimSpec) → Contains l.prims p → get (layer_of l) p.path ≡ Some (spelled_prim p) = λ p listed. get-from_entries path_cmp_total (map prim_at_path l.prims) p.path ∙ found_spelled l.prims p listed.0 (parts l h).ascends listed.1 listed.2 in
+    let there : (p : PrimSpec) → Contains l.prims p → get (layer_of l) p.path ≡ Some (spelled_prim p) = λ p property_list. get-from_entries path_cmp_total (map prim_at_path l.prims) p.path ∙ found_spelled l.prims p property_list.0 (parts l h).ascends property_list.1 property_list.2 in
     record {
-      kinds = λ p listed. ap (option_map (λ (q : LayerPrim). q.kind)) (there p listed);
-      values = λ p at listed.
-          ap (option_and_then (λ (e : Entry). get e.values at)) (get-scene (layer_of l) p.path ∙ ap (option_map entry_of) (there p listed))
+      kinds = λ p property_list. ap (option_map (λ (q : LayerPrim). q.kind)) (there p property_list);
+      values = λ p at property_list.
+          ap (option_and_then (λ (e : Entry). get e.values at)) (get-scene (layer_of l) p.path ∙ ap (option_map entry_of) (there p property_list))
           ∙ container_authors p.properties at;
       paths = λ path is. Contains-from_any tied path (paths_of l.prims) (sym (spelled_there l.prims path) ∙ is);
     }

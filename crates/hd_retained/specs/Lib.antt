@@ -1,4 +1,4 @@
 pub mod Layers
 pub mod Edits
-pub mod Indexed
 pub mod Laws
+pub mod inner

@@ -3,18 +3,18 @@
 ghost use Rattle.std.specs.Prelude.{◌≡◌, ◌≢◌, [], Ok, OnOk, OnErr, IfOk, IfErr, IsTrue};
 ghost use Rattle.hd_layer.specs.WellFormed.{is_property};
 ghost use Rattle.hd_retained.specs.Edits.{is_full_for, after_define, after_set, after_clear, after_remove, IsRefusal};
-ghost use Rattle.hd_retained.specs.Indexed.{layer_in, IsSound, IsIndex};
+ghost use Rattle.hd_retained.specs.inner.Indexed.{layer_in, IsSound, IsIndex};
 
 use crate::fault::EditFault;
-use crate::held::{Held, Place};
 use crate::prims::{find, has_parent, put, remove_all, subtree};
+use crate::stored::{DepthKey, StoredPrim};
 use hd_layer::{Property, Which};
 use hd_path::{Path, Token};
 use std::alloc::{AllocError, Global};
 use std::collections::BTreeMap;
 
 /// Whether a prim at the path would be one more than a layer may have.
-fn is_full_for(prims: &BTreeMap<Place, Held>, path: &Path) -> Result<bool, AllocError>
+fn is_full_for(prims: &BTreeMap<DepthKey, StoredPrim>, path: &Path) -> Result<bool, AllocError>
     requires { IsSound prims.now }
     ensures { IfOk result (λ yes. yes ≡ is_full_for (layer_in prims.now) path.now) }
 {
@@ -26,7 +26,7 @@ fn is_full_for(prims: &BTreeMap<Place, Held>, path: &Path) -> Result<bool, Alloc
 
 /// Puts a prim of this kind, without properties, at a path.
 pub(crate) fn define(
-    prims: &mut BTreeMap<Place, Held>,
+    prims: &mut BTreeMap<DepthKey, StoredPrim>,
     alloc: Global,
     kind: &Token,
     path: &Path,
@@ -45,13 +45,13 @@ pub(crate) fn define(
     if is_full_for(prims, path)? {
         return Err(EditFault::Limit(Which::Prims));
     }
-    put(prims, path, Held::of_kind(kind)?)?;
+    put(prims, path, StoredPrim::of_kind(kind)?)?;
     Ok(())
 }
 
 /// Sets a property of the prim at a path.
 pub(crate) fn set(
-    prims: &mut BTreeMap<Place, Held>,
+    prims: &mut BTreeMap<DepthKey, StoredPrim>,
     alloc: Global,
     path: &Path,
     property: &Property,
@@ -64,17 +64,17 @@ pub(crate) fn set(
     ensures refusal { IfErr result (IsRefusal (after_set (layer_in prims.old) path.now property.now)) }
     ensures err { OnErr result (layer_in prims.new ≡ layer_in prims.old) }
 {
-    let Some(held) = find(prims, path)? else {
+    let Some(stored) = find(prims, path)? else {
         return Err(EditFault::NoPrim);
     };
-    let changed = held.with(alloc, path, property)?;
+    let changed = stored.with(alloc, path, property)?;
     put(prims, path, changed)?;
     Ok(())
 }
 
 /// Takes the property of this name from the prim at a path.
 pub(crate) fn clear(
-    prims: &mut BTreeMap<Place, Held>,
+    prims: &mut BTreeMap<DepthKey, StoredPrim>,
     alloc: Global,
     path: &Path,
     name: &Token,
@@ -86,17 +86,17 @@ pub(crate) fn clear(
     ensures refusal { IfErr result (IsRefusal (after_clear (layer_in prims.old) path.now name.now)) }
     ensures err { OnErr result (layer_in prims.new ≡ layer_in prims.old) }
 {
-    let Some(held) = find(prims, path)? else {
+    let Some(stored) = find(prims, path)? else {
         return Err(EditFault::NoPrim);
     };
-    let changed = held.without(alloc, path, name)?;
+    let changed = stored.without(alloc, path, name)?;
     put(prims, path, changed)?;
     Ok(())
 }
 
 /// Takes out the prims at and below a path.
 pub(crate) fn remove(
-    prims: &mut BTreeMap<Place, Held>,
+    prims: &mut BTreeMap<DepthKey, StoredPrim>,
     alloc: Global,
     path: &Path,
 ) -> Result<(), EditFault>
@@ -110,7 +110,7 @@ pub(crate) fn remove(
     if find(prims, path)?.is_none() {
         return Err(EditFault::NoPrim);
     }
-    let places = subtree(alloc, prims, path)?;
-    remove_all(prims, &places);
+    let keys = subtree(alloc, prims, path)?;
+    remove_all(prims, &keys);
     Ok(())
 }

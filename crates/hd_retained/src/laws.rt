@@ -2,7 +2,7 @@
 
 ghost use Rattle.hd_retained.specs.Laws.{ScenesHaveKinds, ScenesHaveValues, TextsSpellLayers, RenamingMoves};
 
-/// The scene of a layer has its prims, each with its kind, and at each locator with the value of the property that stands
+/// The scene of a layer has its prims, each with its kind, and at each locator with the value of the property that is
 /// there. A text that is read spells its prims with what they author, and no other prim.
 pub fn scenes_have_what_is_authored()
     ensures kinds { ScenesHaveKinds }

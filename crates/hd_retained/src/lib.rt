@@ -3,12 +3,12 @@
 
 mod edits;
 mod fault;
-mod held;
 mod laws;
 mod layer;
 mod prims;
 mod renaming;
 mod retained;
+mod stored;
 
 pub use fault::EditFault;
 pub use laws::{renaming_moves_all_below, scenes_have_what_is_authored};

@@ -5,15 +5,14 @@ ghost use Rattle.std.specs.List.{filter_map};
 ghost use Rattle.std.specs.Option.{option_map};
 ghost use Rattle.std.specs.FinMap.{get, insert};
 ghost use Rattle.std.specs.BTreeMap as tree;
-ghost use Rattle.hd_value.specs.Locators.{is_prefix};
 ghost use Rattle.hd_scene.specs.Scenes as scene;
 ghost use Rattle.hd_scene.specs.Scenes.{child_name, children_of};
 ghost use Rattle.hd_layer.specs.WellFormed.{is_layer};
 ghost use Rattle.hd_retained.specs.Layers.{layer_of, scene_of, kind_in, ArePathsFrom};
 ghost use Rattle.hd_retained.specs.Edits.{has_parent};
-ghost use Rattle.hd_retained.specs.Indexed.{place_cmp, is_at_depth, prim_of, layer_in, IsHeld, IsSound, IsIndex, IsSubtree, IsWithout};
+ghost use Rattle.hd_retained.specs.inner.Indexed.{depth_key_cmp, is_at_depth, prim_of, layer_in, IsStored, IsSound, IsIndex, IsSubtree, IsWithout};
 
-use crate::held::{Held, Place};
+use crate::stored::{DepthKey, StoredPrim};
 use hd_layer::LayerSpec;
 use hd_path::{MAX_DEPTH, Path, Token};
 use hd_scene::Prim;
@@ -22,27 +21,27 @@ use std::collections::BTreeMap;
 
 /// The prim at a path.
 pub(crate) fn find<'a>(
-    prims: &'a BTreeMap<Place, Held>,
+    prims: &'a BTreeMap<DepthKey, StoredPrim>,
     path: &Path,
-) -> Result<Option<&'a Held>, AllocError>
+) -> Result<Option<&'a StoredPrim>, AllocError>
     requires { IsSound prims.now }
     ensures prim { IfOk result (λ found. option_map prim_of (option_copied found) ≡ get (layer_in prims.now) path.now) }
-    ensures held { IfOk result (λ found. IfSome found (λ held. IsHeld held.now)) }
+    ensures stored { IfOk result (λ found. IfSome found (λ stored. IsStored stored.now)) }
 {
-    let place = Place::of(path)?;
-    Ok(prims.get(&place))
+    let key = DepthKey::of(path)?;
+    Ok(prims.get(&key))
 }
 
 /// The kind of the prim at a path, if there is one.
 pub(crate) fn kind<'a>(
-    prims: &'a BTreeMap<Place, Held>,
+    prims: &'a BTreeMap<DepthKey, StoredPrim>,
     path: &Path,
 ) -> Result<Option<&'a Token>, AllocError>
     requires { IsSound prims.now }
     ensures { IfOk result (λ kind. option_copied kind ≡ kind_in (layer_in prims.now) path.now) }
 {
     match find(prims, path)? {
-        Some(held) => Ok(Some(&held.kind)),
+        Some(stored) => Ok(Some(&stored.kind)),
         None => Ok(None),
     }
 }
@@ -50,38 +49,32 @@ pub(crate) fn kind<'a>(
 /// The prim at a path, as the scene has it.
 pub(crate) fn prim(
     alloc: Global,
-    prims: &BTreeMap<Place, Held>,
+    prims: &BTreeMap<DepthKey, StoredPrim>,
     path: &Path,
 ) -> Result<Prim, AllocError>
     requires { IsSound prims.now }
     ensures { IfOk result (λ prim. prim ≡ scene.prim_of (get (scene_of (layer_in prims.now)) path.now)) }
 {
     match find(prims, path)? {
-        Some(held) => Ok(Prim {
-            kind: held.kind.copy()?,
-            values: Some(held.values.copy()?),
-        }),
-        None => Ok(Prim {
-            kind: Token::new(alloc, "")?,
-            values: None,
-        }),
+        Some(stored) => Prim::of(alloc, Some(stored.entry()?)),
+        None => Prim::absent(alloc),
     }
 }
 
 /// Puts a prim at a path. Refused it changes nothing.
 pub(crate) fn put(
-    prims: &mut BTreeMap<Place, Held>,
+    prims: &mut BTreeMap<DepthKey, StoredPrim>,
     path: &Path,
-    held: Held,
+    stored: StoredPrim,
 ) -> Result<(), AllocError>
     requires sound { IsSound prims.old }
-    requires held { IsHeld held }
+    requires stored { IsStored stored }
     ensures sound { IsSound prims.new }
-    ensures ok { OnOk result (layer_in prims.new ≡ insert (layer_in prims.old) path.now (prim_of held)) }
+    ensures ok { OnOk result (layer_in prims.new ≡ insert (layer_in prims.old) path.now (prim_of stored)) }
     ensures err { OnErr result (layer_in prims.new ≡ layer_in prims.old) }
 {
-    let place = Place::of(path)?;
-    prims.insert(place, held)?;
+    let key = DepthKey::of(path)?;
+    prims.insert(key, stored)?;
     Ok(())
 }
 
@@ -89,7 +82,7 @@ pub(crate) fn put(
 pub(crate) fn of_layer(
     alloc: Global,
     layer: &LayerSpec,
-) -> Result<BTreeMap<Place, Held>, AllocError>
+) -> Result<BTreeMap<DepthKey, StoredPrim>, AllocError>
     requires { IsTrue (is_layer layer.now) }
     ensures index { IfOk result IsIndex }
     ensures layer { IfOk result (λ prims. layer_in prims ≡ layer_of layer.now) }
@@ -97,15 +90,15 @@ pub(crate) fn of_layer(
     let mut prims = BTreeMap::new(alloc);
     for spec in layer.prims.items() {
         spec.path.is_path();
-        put(&mut prims, &spec.path, Held::of_spec(alloc, spec)?)?;
+        put(&mut prims, &spec.path, StoredPrim::of_spec(alloc, spec)?)?;
     }
     Ok(prims)
 }
 
-/// Whether a prim may stand at a path: its parent is the root, or is there.
+/// Whether a prim may be at a path: its parent is the root, or is there.
 pub(crate) fn has_parent(
     alloc: Global,
-    prims: &BTreeMap<Place, Held>,
+    prims: &BTreeMap<DepthKey, StoredPrim>,
     path: &Path,
 ) -> Result<bool, AllocError>
     requires { IsSound prims.now }
@@ -118,83 +111,76 @@ pub(crate) fn has_parent(
     Ok(find(prims, &parent)?.is_some())
 }
 
-/// Whether a path is at or below another one.
-pub(crate) fn is_prefix(front: &Path, path: &Path) -> bool
-    ensures { result ≡ is_prefix front.now path.now }
+/// Whether a key has this depth and begins with the path.
+fn is_at_depth(key: &DepthKey, depth: usize, path: &Path) -> bool
+    ensures { result ≡ is_at_depth depth path.now key.now }
 {
-    path.has_prefix(front)
+    key.depth == depth && key.path.has_prefix(path)
 }
 
-/// Whether a place has this depth and begins with the path.
-fn is_at_depth(place: &Place, depth: usize, path: &Path) -> bool
-    ensures { result ≡ is_at_depth depth path.now place.now }
-{
-    place.depth == depth && is_prefix(path, &place.path)
-}
-
-/// Adds the places of one depth that begin with a path, in their order. No other place is looked at, but for the one
-/// behind them.
+/// Adds the keys of one depth that begin with a path, in their order. No other key is looked at, but for the one
+/// after them.
 fn add_depth(
-    prims: &BTreeMap<Place, Held>,
+    prims: &BTreeMap<DepthKey, StoredPrim>,
     depth: usize,
     path: &Path,
-    places: &mut Vec<Place>,
+    keys: &mut Vec<DepthKey>,
 ) -> Result<(), AllocError>
-    ensures added { OnOk result (places.new.items ≡ places.old.items ++ filter (is_at_depth depth path.now) (tree.keys prims.now)) }
-    ensures ordered { OnOk result (tree.IsOrdered place_cmp prims.now) }
+    ensures added { OnOk result (keys.new.items ≡ keys.old.items ++ filter (is_at_depth depth path.now) (tree.keys prims.now)) }
+    ensures ordered { OnOk result (tree.IsOrdered depth_key_cmp prims.now) }
 {
-    let start = Place {
+    let start = DepthKey {
         depth,
         path: path.copy()?,
     };
-    for (place, _) in prims.range(&start..) {
-        if !is_at_depth(place, depth, path) {
+    for (key, _) in prims.range(&start..) {
+        if !is_at_depth(key, depth, path) {
             return Ok(());
         }
-        places.push(place.copy()?)?;
+        keys.push(key.copy()?)?;
     }
     Ok(())
 }
 
-/// The places at and below a path, by their depth.
+/// The keys at and below a path, by their depth.
 pub(crate) fn subtree(
     alloc: Global,
-    prims: &BTreeMap<Place, Held>,
+    prims: &BTreeMap<DepthKey, StoredPrim>,
     path: &Path,
-) -> Result<Vec<Place>, AllocError>
+) -> Result<Vec<DepthKey>, AllocError>
     requires { IsIndex prims.now }
-    ensures { IfOk result (λ places. IsSubtree prims.now path.now places.items) }
+    ensures { IfOk result (λ keys. IsSubtree prims.now path.now keys.items) }
 {
-    let mut places = Vec::new(alloc);
+    let mut keys = Vec::new(alloc);
     for depth in path.depth()..MAX_DEPTH + 1 {
-        add_depth(prims, depth, path, &mut places)?;
+        add_depth(prims, depth, path, &mut keys)?;
     }
-    Ok(places)
+    Ok(keys)
 }
 
 /// The paths of the prims at and below a path, by their depth.
 pub(crate) fn paths_from(
     alloc: Global,
-    prims: &BTreeMap<Place, Held>,
+    prims: &BTreeMap<DepthKey, StoredPrim>,
     path: &Path,
 ) -> Result<Vec<Path>, AllocError>
     requires { IsIndex prims.now }
     ensures { IfOk result (λ paths. ArePathsFrom (layer_in prims.now) path.now paths.items) }
 {
-    let places = subtree(alloc, prims, path)?;
-    let mut paths = Vec::with_capacity(alloc, places.len())?;
-    for place in places {
-        paths.push(place.path)?;
+    let keys = subtree(alloc, prims, path)?;
+    let mut paths = Vec::with_capacity(alloc, keys.len())?;
+    for key in keys {
+        paths.push(key.path)?;
     }
     Ok(paths)
 }
 
-/// Takes out the prims at these places.
-pub(crate) fn remove_all(prims: &mut BTreeMap<Place, Held>, places: &[Place])
-    ensures { IsWithout prims.old places.now prims.new }
+/// Takes out the prims at these keys.
+pub(crate) fn remove_all(prims: &mut BTreeMap<DepthKey, StoredPrim>, keys: &[DepthKey])
+    ensures { IsWithout prims.old keys.now prims.new }
 {
-    for place in places {
-        let _ = prims.remove(place);
+    for key in keys {
+        let _ = prims.remove(key);
     }
 }
 
@@ -230,13 +216,13 @@ fn add_name(
     }
 }
 
-/// The last names of the places whose parent is the path.
-fn names_of(alloc: Global, parent: &Path, places: &[Place]) -> Result<Vec<Token>, AllocError>
-    ensures { IfOk result (λ names. names.items ≡ filter_map (child_name parent.now) (map (λ place. place.path) places.now)) }
+/// The last names of the keys whose parent is the path.
+fn names_of(alloc: Global, parent: &Path, keys: &[DepthKey]) -> Result<Vec<Token>, AllocError>
+    ensures { IfOk result (λ names. names.items ≡ filter_map (child_name parent.now) (map (λ key. key.path) keys.now)) }
 {
-    let mut names = Vec::with_capacity(alloc, places.len())?;
-    for place in places {
-        add_name(alloc, parent, &place.path, &mut names)?;
+    let mut names = Vec::with_capacity(alloc, keys.len())?;
+    for key in keys {
+        add_name(alloc, parent, &key.path, &mut names)?;
     }
     Ok(names)
 }
@@ -244,13 +230,13 @@ fn names_of(alloc: Global, parent: &Path, places: &[Place]) -> Result<Vec<Token>
 /// The names of the prims immediately below a path, in byte order.
 pub(crate) fn children(
     alloc: Global,
-    prims: &BTreeMap<Place, Held>,
+    prims: &BTreeMap<DepthKey, StoredPrim>,
     path: &Path,
 ) -> Result<Vec<Token>, AllocError>
     requires { IsSound prims.now }
     ensures { IfOk result (λ names. names.items ≡ children_of (scene_of (layer_in prims.now)) path.now) }
 {
-    let mut places = Vec::new(alloc);
-    add_depth(prims, path.depth() + 1, path, &mut places)?;
-    names_of(alloc, path, &places)
+    let mut keys = Vec::new(alloc);
+    add_depth(prims, path.depth() + 1, path, &mut keys)?;
+    names_of(alloc, path, &keys)
 }

@@ -9,10 +9,12 @@ ghost use Rattle.hd_scene.specs.declared.notice.Notice.TheVariants.{Added, Remov
 ghost use Rattle.hd_value.specs.Schema.{is_authored};
 ghost use Rattle.hd_scene.specs.Scenes.{IsClosed, SceneConforms};
 ghost use Rattle.hd_retained.specs.Layers.{layer_of, scene_of, kind_in, AreUsed, ArePathsFrom};
-ghost use Rattle.hd_retained.specs.Edits.{after_define, after_set, after_set_if_used, after_clear, after_remove, after_rename, edited, dirtied, notices_of_edit, IsRefusal};
+ghost use Rattle.hd_retained.specs.Edits.{after_define, after_set, after_set_if_used, after_clear, after_remove, after_rename, edit_layer, dirtied_notices, notices_of_edit, IsRefusal};
 
 use crate::fault::EditFault;
 use crate::layer::Layer;
+use crate::stored::{DepthKey, StoredPrim};
+use crate::{edits, prims, renaming};
 use hd_layer::{Edit, LayerSpec, Property};
 use hd_num::List;
 use hd_path::{Path, Token};
@@ -20,6 +22,7 @@ use hd_scene::{Notice, Notices, Prim, SceneIndex};
 use hd_schema::locators_of;
 use hd_value::LocatorSet;
 use std::alloc::{AllocError, Global};
+use std::collections::BTreeMap;
 use std::marker::Model;
 
 /// A layer as a scene index, which is always in step with it.
@@ -27,18 +30,21 @@ use std::marker::Model;
 /// An edit answers the notices of its change. Refused it changes nothing.
 #[derive(Drop)]
 pub struct Retained {
-    layer: Layer,
+    prims: BTreeMap<DepthKey, StoredPrim>,
     pulls: u64,
 }
 
 impl Model for Retained {
     ghost use Rattle.hd_retained.specs.Edits.{State, state_code};
+    ghost use Rattle.hd_retained.specs.inner.Indexed.{layer_in, IsIndex};
 
     ghost Value = { State };
 
     ghost coded = { state_code };
 
-    ghost view = { λ a. record { layer = a.layer; pulls = a.pulls } };
+    ghost view = { λ index. record { layer = layer_in index.prims; pulls = index.pulls } };
+
+    ghost invariant = { λ index. IsIndex index.prims };
 }
 
 impl SceneIndex for Retained {
@@ -54,11 +60,11 @@ impl SceneIndex for Retained {
 
     fn prim(&mut self, alloc: Global, path: &Path) -> Result<Prim, AllocError> {
         self.pulls = self.pulls.saturating_add(1);
-        self.layer.prim(alloc, path)
+        prims::prim(alloc, &self.prims, path)
     }
 
     fn children(&mut self, alloc: Global, path: &Path) -> Result<List<Token>, AllocError> {
-        self.layer.children(alloc, path)
+        List::of(alloc, prims::children(alloc, &self.prims, path)?)
     }
 
     fn pulls(&self) -> u64 {
@@ -69,7 +75,7 @@ impl SceneIndex for Retained {
 }
 
 impl Retained {
-    /// The index of a layer that was read. The call fails for want of memory alone.
+    /// The index of a layer that was read. The call fails for lack of memory alone.
     pub fn from_layer(alloc: Global, layer: LayerSpec) -> Result<Retained, AllocError>
         requires { IsTrue (is_layer layer) }
         ensures layer { IfOk result (λ made. made.layer ≡ layer_of layer) }
@@ -77,7 +83,7 @@ impl Retained {
         ensures pulls { IfOk result (λ made. made.pulls ≡ 0) }
     {
         Ok(Retained {
-            layer: Layer::of(alloc, &layer)?,
+            prims: prims::of_layer(alloc, &layer)?,
             pulls: 0,
         })
     }
@@ -86,36 +92,36 @@ impl Retained {
     pub fn is_in_step(&self)
         ensures { IsClosed (scene_of self.now.layer) }
     {
-        self.layer.is_closed();
+        let _ = &self.prims;
     }
 
     /// Each value of the scene has the form of one that a text can author: a fact for proofs, which costs nothing.
     pub fn conforms(&self)
         ensures { SceneConforms is_authored (scene_of self.now.layer) }
     {
-        self.layer.conforms();
+        let _ = &self.prims;
     }
 
     /// Each property of the layer is a used one whose value has its form: a fact for proofs, which costs nothing.
     pub fn has_used_properties(&self)
         ensures { AreUsed self.now.layer }
     {
-        self.layer.has_used_properties();
+        let _ = &self.prims;
     }
 
-    /// The kind of the prim at a path, if there is one. The call fails for want of memory alone.
+    /// The kind of the prim at a path, if there is one. The call fails for lack of memory alone.
     pub fn kind(&self, path: &Path) -> Result<Option<&Token>, AllocError>
         ensures { IfOk result (λ kind. option_copied kind ≡ kind_in self.now.layer path.now) }
     {
-        self.layer.kind(path)
+        prims::kind(&self.prims, path)
     }
 
     /// The paths of the prims at and below a path, those with fewer names first, and else in their order. The call
-    /// fails for want of memory alone.
+    /// fails for lack of memory alone.
     pub fn paths_from(&self, alloc: Global, path: &Path) -> Result<Vec<Path>, AllocError>
         ensures { IfOk result (λ paths. ArePathsFrom self.now.layer path.now paths.items) }
     {
-        self.layer.paths_from(alloc, path)
+        prims::paths_from(alloc, &self.prims, path)
     }
 
     /// Does an edit: what `define`, `set`, `clear`, `remove` or `rename` does, with their notices and refusals.
@@ -123,9 +129,9 @@ impl Retained {
     /// To set a property that is not used changes nothing and has no notice. `NoPrim` where no prim is there.
     pub fn edit(&mut self, alloc: Global, edit: &Edit) -> Result<Notices, EditFault>
         requires formed { IsTrue (is_edit edit.now) }
-        ensures done { OnOk result (edited self.old.layer edit.now ≡ Ok self.new.layer) }
+        ensures done { OnOk result (edit_layer self.old.layer edit.now ≡ Ok self.new.layer) }
         ensures notices { IfOk result (λ notices. notices ≡ notices_of_edit edit.now) }
-        ensures refusal { IfErr result (IsRefusal (edited self.old.layer edit.now)) }
+        ensures refusal { IfErr result (IsRefusal (edit_layer self.old.layer edit.now)) }
         ensures err { OnErr result (self.new ≡ self.old) }
         ensures in_step { IsClosed (scene_of self.new.layer) }
         ensures same_pulls { self.new.pulls ≡ self.old.pulls }
@@ -155,7 +161,7 @@ impl Retained {
         ensures in_step { IsClosed (scene_of self.new.layer) }
         ensures same_pulls { self.new.pulls ≡ self.old.pulls }
     {
-        self.layer.is_closed();
+        self.is_in_step();
         match property {
             Some(property) => self.set(alloc, path, property),
             None => self.look_for(alloc, path),
@@ -186,9 +192,9 @@ impl Retained {
         ensures in_step { IsClosed (scene_of self.new.layer) }
         ensures same_pulls { self.new.pulls ≡ self.old.pulls }
     {
-        self.layer.is_closed();
+        self.is_in_step();
         let notices = only(alloc, Notice::Added(path.copy()?, kind.copy()?))?;
-        self.layer.define(alloc, kind, path)?;
+        edits::define(&mut self.prims, alloc, kind, path)?;
         Ok(notices)
     }
 
@@ -210,10 +216,10 @@ impl Retained {
         ensures in_step { IsClosed (scene_of self.new.layer) }
         ensures same_pulls { self.new.pulls ≡ self.old.pulls }
     {
-        self.layer.is_closed();
+        self.is_in_step();
         let locators = locators_of(alloc, &property.name)?;
         let notices = only(alloc, Notice::Dirtied(path.copy()?, locators))?;
-        self.layer.set(alloc, path, property)?;
+        edits::set(&mut self.prims, alloc, path, property)?;
         Ok(notices)
     }
 
@@ -224,15 +230,15 @@ impl Retained {
     pub fn clear(&mut self, alloc: Global, path: &Path, name: &Token) -> Result<Notices, EditFault>
         requires { path.now ≢ [] }
         ensures done { OnOk result (after_clear self.old.layer path.now name.now ≡ Ok self.new.layer) }
-        ensures notices { IfOk result (λ notices. notices ≡ dirtied path.now (locators_of name.now)) }
+        ensures notices { IfOk result (λ notices. notices ≡ dirtied_notices path.now (locators_of name.now)) }
         ensures refusal { IfErr result (IsRefusal (after_clear self.old.layer path.now name.now)) }
         ensures err { OnErr result (self.new ≡ self.old) }
         ensures in_step { IsClosed (scene_of self.new.layer) }
         ensures same_pulls { self.new.pulls ≡ self.old.pulls }
     {
-        self.layer.is_closed();
-        let notices = dirtied(alloc, path, locators_of(alloc, name)?)?;
-        self.layer.clear(alloc, path, name)?;
+        self.is_in_step();
+        let notices = dirtied_notices(alloc, path, locators_of(alloc, name)?)?;
+        edits::clear(&mut self.prims, alloc, path, name)?;
         Ok(notices)
     }
 
@@ -248,9 +254,9 @@ impl Retained {
         ensures in_step { IsClosed (scene_of self.new.layer) }
         ensures same_pulls { self.new.pulls ≡ self.old.pulls }
     {
-        self.layer.is_closed();
+        self.is_in_step();
         let notices = only(alloc, Notice::Removed(path.copy()?))?;
-        self.layer.remove(alloc, path)?;
+        edits::remove(&mut self.prims, alloc, path)?;
         Ok(notices)
     }
 
@@ -269,9 +275,9 @@ impl Retained {
         ensures in_step { IsClosed (scene_of self.new.layer) }
         ensures same_pulls { self.new.pulls ≡ self.old.pulls }
     {
-        self.layer.is_closed();
+        self.is_in_step();
         let notices = only(alloc, Notice::Renamed(from.copy()?, to.copy()?))?;
-        self.layer.rename(alloc, from, to)?;
+        renaming::rename(&mut self.prims, alloc, from, to)?;
         Ok(notices)
     }
 }
@@ -286,8 +292,8 @@ fn only(alloc: Global, notice: Notice) -> Result<Notices, AllocError>
 }
 
 /// The notice that values of a prim at these locators may have changed, where there are any.
-fn dirtied(alloc: Global, path: &Path, locators: LocatorSet) -> Result<Notices, AllocError>
-    ensures { IfOk result (λ notices. notices ≡ dirtied path.now locators) }
+fn dirtied_notices(alloc: Global, path: &Path, locators: LocatorSet) -> Result<Notices, AllocError>
+    ensures { IfOk result (λ notices. notices ≡ dirtied_notices path.now locators) }
 {
     if locators.is_empty() {
         return Ok(Notices::new(alloc));

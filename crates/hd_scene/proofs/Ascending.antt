@@ -10,7 +10,7 @@ use Rattle.std.specs.Cmp.{IsTotalOrder}
 use Rattle.std.specs.FinMap.{FinMap, IsAntisymmetric, entries, keys, empty, from_entries, get-from_entries, len-empty, len-entries, entries-insert, entries_sorted, same_map}
 use Rattle.std.specs.FinMap.Entries.{put, by_order, find, is_sorted, below_all}
 
-is_less : (o : Ordering) → T (is_lt o) → o ≡ Less
+pub is_less : (o : Ordering) → T (is_lt o) → o ≡ Less
 is_less Less h = refl
 is_less Equal h = absurd h
 is_less Greater h = absurd h

@@ -10,10 +10,10 @@ use Rattle.std.specs.declared.cmp.Ordering.TheVariants.{Less, Equal, Greater}
 use Rattle.std.specs.Cmp.{IsTotalOrder, tied_itself}
 use Rattle.std.specs.Cmp.Lexicographic.{slice_cmp, nat_list_cmp_total, texts_ties}
 use Rattle.std.specs.FinMap.{get, keys, contains_key-keys, slice_cmp-IsAntisymmetric, nat_cmp-IsAntisymmetric, IsAntisymmetric}
-use Rattle.hd_path.specs.Comparing.{names_ties}
-use Rattle.hd_path.specs.Paths.{HasPrefix, path_cmp}
-use Rattle.hd_value.specs.Locators.{is_same}
-use Rattle.hd_value.proofs.Prefixes.{same_text, same_itself}
+use Rattle.hd_path.specs.inner.Comparing.{names_ties}
+use Rattle.hd_path.specs.Paths.{Path, path_cmp}
+use Rattle.hd_path.specs.Names.{Name, is_same}
+use Rattle.hd_path.proofs.NamePrefixes.{same_text, same_itself}
 use Rattle.hd_scene.specs.Scenes.{Scene, child_name, children_of, AreChildren, IsClosed}
 use Rattle.hd_scene.specs.Tells.{is_same_path}
 use Rattle.hd_scene.proofs.Ascending.{keys_ascend, same_ascending}
@@ -26,14 +26,14 @@ pub path_cmp_exact : IsAntisymmetric path_cmp
 path_cmp_exact = slice_cmp-IsAntisymmetric (slice_cmp-IsAntisymmetric nat_cmp-IsAntisymmetric)
 
 -- the path of a child is the parent's and its name
-pub child_is : (path key : List (List ℕ)) (name : List ℕ) → child_name path key ≡ Some name → key ≡ path ++ name ∷ []
+pub child_is : (path key : Path) (name : Name) → child_name path key ≡ Some name → key ≡ path ++ name ∷ []
 child_is [] [] name h = cc
 child_is [] (x ∷ []) name h = cc
 child_is [] (x ∷ y ∷ key) name h = cc
 child_is (x ∷ path) [] name h = cc
 child_is (x ∷ path) (y ∷ key) name h =
     elim (is_same x y) as (λ b. is_same x y ≡ b → (if b then child_name path key else None) ≡ Some name → y ∷ key ≡ x ∷ path ++ name ∷ []) [
-      | true ↦ λ same is. ap (λ (z : List ℕ). z ∷ key) (sym (same_text x y same)) ∙ ap (λ (rest : List (List ℕ)). x ∷ rest) (child_is path key name is)
+      | true ↦ λ same is. ap (λ (z : Name). z ∷ key) (sym (same_text x y same)) ∙ ap (λ (rest : Path). x ∷ rest) (child_is path key name is)
       | false ↦ λ _ is. cc
     ] refl h
 
@@ -42,21 +42,21 @@ then_equal Less = refl
 then_equal Equal = refl
 then_equal Greater = refl
 
--- two paths with one parent stand as their names do
-siblings_cmp : (path : List (List ℕ)) (a b : List ℕ) → path_cmp (path ++ a ∷ []) (path ++ b ∷ []) ≡ slice_cmp nat_cmp a b
+-- two paths with one parent are as their names do
+siblings_cmp : (path : Path) (a b : Name) → path_cmp (path ++ a ∷ []) (path ++ b ∷ []) ≡ slice_cmp nat_cmp a b
 siblings_cmp [] a b = then_equal (slice_cmp nat_cmp a b)
 siblings_cmp (x ∷ path) a b = ap (λ r. ordering_then r (path_cmp (path ++ a ∷ []) (path ++ b ∷ []))) (tied_itself nat_list_cmp_total x) ∙ siblings_cmp path a b
 
-names_above : (path ks : List (List ℕ)) (ps : List (List (List ℕ))) (name : List ℕ) → child_name path ks ≡ Some name → AllByRecursion (λ y. path_cmp ks y ≡ Less) ps → AllByRecursion (λ y. slice_cmp nat_cmp name y ≡ Less) (filter_map (child_name path) ps)
+names_above : (path : Path) (ks : List (List ℕ)) (ps : List Path) (name : Name) → child_name path ks ≡ Some name → AllByRecursion (λ y. path_cmp ks y ≡ Less) ps → AllByRecursion (λ y. slice_cmp nat_cmp name y ≡ Less) (filter_map (child_name path) ps)
 names_above path k [] name is h = tt
 names_above path k (p ∷ ps) name is h =
     let rest = names_above path k ps name is h.1 in
     elim (child_name path p) as (λ (o : Option (List ℕ)). child_name path p ≡ o → AllByRecursion (λ y. slice_cmp nat_cmp name y ≡ Less) (cons_option o (filter_map (child_name path) ps))) [
       | None ↦ λ _. rest
-      | Some other ↦ λ also. (sym (siblings_cmp path name other) ∙ ap (λ (q : List (List ℕ)). path_cmp q (path ++ other ∷ [])) (sym (child_is path k name is)) ∙ ap (path_cmp k) (sym (child_is path p other also)) ∙ h.0, rest)
+      | Some other ↦ λ also. (sym (siblings_cmp path name other) ∙ ap (λ (q : Path). path_cmp q (path ++ other ∷ [])) (sym (child_is path k name is)) ∙ ap (path_cmp k) (sym (child_is path p other also)) ∙ h.0, rest)
     ] refl
 
-names_ascend : (path : List (List ℕ)) (ks : List (List (List ℕ))) → IsStrictlySortedBy path_cmp ks → IsStrictlySortedBy (slice_cmp nat_cmp) (filter_map (child_name path) ks)
+names_ascend : (path : Path) (ks : List Path) → IsStrictlySortedBy path_cmp ks → IsStrictlySortedBy (slice_cmp nat_cmp) (filter_map (child_name path) ks)
 unfolding IsStrictlySortedBy
 names_ascend path [] h = tt
 names_ascend path (k ∷ ks) h =
@@ -79,7 +79,7 @@ and_false : (a : Bool) → (a && false) ≡ false
 and_false true = refl
 and_false false = refl
 
-child_test : (path key : List (List ℕ)) (name : List ℕ) → is_same_path (path ++ name ∷ []) key ≡ is_named name (child_name path key)
+child_test : (path key : Path) (name : Name) → is_same_path (path ++ name ∷ []) key ≡ is_named name (child_name path key)
 child_test [] [] name = refl
 child_test [] (x ∷ []) name = and_true (is_same name x)
 child_test [] (x ∷ y ∷ key) name = and_false (is_same name x)
@@ -90,18 +90,18 @@ child_test (x ∷ path) (y ∷ key) name =
       | false ↦ refl
     ]
 
-named_in : (name : List ℕ) (o : Option (List ℕ)) (names : List (List ℕ)) → list_any (is_same name) (cons_option o names) ≡ (is_named name o || list_any (is_same name) names)
+named_in : (name : Name) (o : Option (List ℕ)) (names : List Name) → list_any (is_same name) (cons_option o names) ≡ (is_named name o || list_any (is_same name) names)
 named_in name None names = refl
 named_in name (Some other) names = refl
 
-child_among : (path : List (List ℕ)) (ks : List (List (List ℕ))) (name : List ℕ) → list_any (eq_by_cmp path_cmp (path ++ name ∷ [])) ks ≡ list_any (is_same name) (filter_map (child_name path) ks)
+child_among : (path : Path) (ks : List Path) (name : Name) → list_any (eq_by_cmp path_cmp (path ++ name ∷ [])) ks ≡ list_any (is_same name) (filter_map (child_name path) ks)
 child_among path [] name = refl
 child_among path (k ∷ ks) name =
     ap (λ b. b || list_any (eq_by_cmp path_cmp (path ++ name ∷ [])) ks) (sym (names_ties (path ++ name ∷ []) k) ∙ child_test path k name)
     ∙ ap (λ b. is_named name (child_name path k) || b) (child_among path ks name)
     ∙ sym (named_in name (child_name path k) (filter_map (child_name path) ks))
 
-any_of : (name : List ℕ) (names : List (List ℕ)) (k : ℕ) → k < length names → slice_index_or names k name ≡ name → list_any (is_same name) names ≡ true
+any_of : (name : Name) (names : List Name) (k : ℕ) → k < length names → slice_index_or names k name ≡ name → list_any (is_same name) names ≡ true
 any_of name [] k l e = absurd (omega arith)
 any_of name (x ∷ names) zero l e = ap (λ b. b || list_any (is_same name) names) (ap (is_same name) e ∙ same_itself name)
 any_of name (x ∷ names) (suc k) l e = ap (λ b. is_same name x || b) (any_of name names k (omega arith) e) ∙ or_true (is_same name x)
@@ -111,13 +111,13 @@ any_of name (x ∷ names) (suc k) l e = ap (λ b. is_same name x || b) (any_of n
     or_true false = refl
 
 -- whether a child is there, by its name among those of the children
-pub child_there : (scene : Scene) (path : List (List ℕ)) (name : List ℕ) → is_some (get scene (path ++ name ∷ [])) ≡ list_any (is_same name) (children_of scene path)
+pub child_there : (scene : Scene) (path : Path) (name : Name) → is_some (get scene (path ++ name ∷ [])) ≡ list_any (is_same name) (children_of scene path)
 child_there scene path name = contains_key-keys scene (path ++ name ∷ []) ∙ child_among path (keys scene) name
 
-contains_any : (names : List (List ℕ)) (name : List ℕ) → Contains names name ↔ (list_any (is_same name) names ≡ true)
+contains_any : (names : List Name) (name : Name) → Contains names name ↔ (list_any (is_same name) names ≡ true)
 contains_any names name = (λ c. any_of name names c.0 c.1 c.2, λ h. Contains-from_any same_text name names h)
 
-pub AreChildren-children_of : (scene : Scene) (path : List (List ℕ)) → AreChildren scene path (children_of scene path)
+pub AreChildren-children_of : (scene : Scene) (path : Path) → AreChildren scene path (children_of scene path)
 AreChildren-children_of scene path = record {
   ascending = names_ascend path (keys scene) (keys_ascend scene);
   there = λ name.
@@ -126,12 +126,12 @@ AreChildren-children_of scene path = record {
 }
 
 -- two tests that imply each other give one answer
-same_answer : (a b : Bool) → (a ≡ true → b ≡ true) → (b ≡ true → a ≡ true) → a ≡ b
+pub same_answer : (a b : Bool) → (a ≡ true → b ≡ true) → (b ≡ true → a ≡ true) → a ≡ b
 same_answer true b f g = sym (f refl)
 same_answer false true f g = g refl
 same_answer false false f g = refl
 
-pub children_of-unique : (scene : Scene) (path names : List (List ℕ)) → AreChildren scene path names → names ≡ children_of scene path
+pub children_of-unique : (scene : Scene) (path : Path) (names : List Name) → AreChildren scene path names → names ≡ children_of scene path
 children_of-unique scene path names are =
     let own = AreChildren-children_of scene path in
     let is_in : List ℕ → List (List ℕ) → Bool = λ q xs. list_any (eq_by_cmp (slice_cmp nat_cmp) q) xs in
@@ -147,17 +147,17 @@ children_of-unique scene path names are =
     by_same q (x ∷ xs) = ap (λ b. b || list_any (is_same q) xs) (texts_ties q x) ∙ ap (λ b. eq_by_cmp (slice_cmp nat_cmp) q x || b) (by_same q xs)
 
 -- a path other than the root is a parent and a name
-split_last : (x : List ℕ) (path : List (List ℕ)) → (front : List (List ℕ)) × (last : List ℕ) × (x ∷ path ≡ front ++ last ∷ [])
+split_last : (x : Name) (path : Path) → (front : Path) × (last : Name) × (x ∷ path ≡ front ++ last ∷ [])
 split_last x [] = ([], x, refl)
 split_last x (y ∷ path) =
     let rest = split_last y path in
     (x ∷ rest.0, rest.1, ap (λ (z : List (List ℕ)). x ∷ z) rest.2)
 
-pub children_of-absent : (scene : Scene) (path : List (List ℕ)) → IsClosed scene → path ≢ [] → get scene path ≡ None → children_of scene path ≡ []
+pub children_of-absent : (scene : Scene) (path : Path) → IsClosed scene → path ≢ [] → get scene path ≡ None → children_of scene path ≡ []
 children_of-absent scene [] closed no_root absent = absurd (no_root refl)
 children_of-absent scene (x ∷ path) closed no_root absent = none (children_of scene (x ∷ path)) (λ name. sym (child_there scene (x ∷ path) name))
   where
-    none : (names : List (List ℕ)) → ((name : List ℕ) → list_any (is_same name) names ≡ is_some (get scene ((x ∷ path) ++ name ∷ []))) → names ≡ []
+    none : (names : List Name) → ((name : Name) → list_any (is_same name) names ≡ is_some (get scene ((x ∷ path) ++ name ∷ []))) → names ≡ []
     none [] h = refl
     none (name ∷ names) h = absurd (
         let parts = split_last x path in
@@ -165,13 +165,13 @@ children_of-absent scene (x ∷ path) closed no_root absent = none (children_of 
         let last : List ℕ = parts.1 in
         let there : is_some (get scene ((x ∷ path) ++ name ∷ [])) ≡ true = sym (h name) ∙ ap (λ b. b || list_any (is_same name) names) (same_itself name) in
         let at : (x ∷ path) ++ name ∷ [] ≡ front ++ last ∷ name ∷ [] = ap (λ (z : List (List ℕ)). z ++ name ∷ []) parts.2 ∙ append_assoc front (last ∷ []) (name ∷ []) in
-        let parent : is_some (get scene (front ++ last ∷ [])) ≡ true = closed.parents front last name (subst (λ (q : List (List ℕ)). is_some (get scene q) ≡ true) at there) in
-        let here : is_some (get scene (x ∷ path)) ≡ true = subst (λ (q : List (List ℕ)). is_some (get scene q) ≡ true) (sym parts.2) parent in
+        let parent : is_some (get scene (front ++ last ∷ [])) ≡ true = closed.parents front last name (subst (λ (q : Path). is_some (get scene q) ≡ true) at there) in
+        let here : is_some (get scene (x ∷ path)) ≡ true = subst (λ (q : Path). is_some (get scene q) ≡ true) (sym parts.2) parent in
         let gone : is_some (get scene (x ∷ path)) ≡ false = ap is_some absent in
         cc)
 
 -- a path with other than one name more is no child
-pub child_name-depth : (path key : List (List ℕ)) → length key ≢ length path + 1 → child_name path key ≡ None
+pub child_name-depth : (path key : Path) → length key ≢ length path + 1 → child_name path key ≡ None
 child_name-depth [] [] h = refl
 child_name-depth [] (x ∷ []) h = absurd (h refl)
 child_name-depth [] (x ∷ y ∷ key) h = refl
@@ -183,7 +183,7 @@ child_name-depth (x ∷ path) (y ∷ key) h =
     ]
 
 -- a path with one name more is a child where it begins with the parent
-pub child_name-prefix : (path key : List (List ℕ)) → length key ≡ length path + 1 → HasPrefix key path → child_name path key ≡ Some (slice_index_or key (length path) [])
+pub child_name-prefix : (path key : Path) → length key ≡ length path + 1 → take (length path) key ≡ path → child_name path key ≡ Some (slice_index_or key (length path) [])
 child_name-prefix [] [] l h = absurd (omega arith)
 child_name-prefix [] (x ∷ []) l h = refl
 child_name-prefix [] (x ∷ y ∷ key) l h = absurd (omega arith)
@@ -194,12 +194,12 @@ child_name-prefix (x ∷ path) (y ∷ key) l h =
     let yes : is_same x y ≡ true = ap (is_same x) same ∙ same_itself x in
     ap (λ b. if b then child_name path key else None) yes ∙ child_name-prefix path key (omega arith) rest
 
-pub take-front : (front rest : List (List ℕ)) → take (length front) (front ++ rest) ≡ front
+pub take-front : (front rest : Path) → take (length front) (front ++ rest) ≡ front
 take-front [] rest = refl
 take-front (x ∷ front) rest = ap (λ (z : List (List ℕ)). x ∷ z) (take-front front rest)
 
 -- and else it is none
-pub child_name-apart : (path key : List (List ℕ)) → ¬ HasPrefix key path → child_name path key ≡ None
+pub child_name-apart : (path key : Path) → ¬ (take (length path) key ≡ path) → child_name path key ≡ None
 child_name-apart path key h =
     elim (child_name path key) as (λ (o : Option (List ℕ)). child_name path key ≡ o → o ≡ None) [
       | None ↦ λ _. refl

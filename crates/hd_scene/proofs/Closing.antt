@@ -1,37 +1,26 @@
 -- Scenes stay closed.
-use Rattle.std.proofs.Common.{◌≡◌, ◌≢◌, ℕ, Bool, true, false, cond, ◌||◌, List, [], ◌∷◌, ◌++◌, Option, Some, None, is_some, IsSome, refl, sym, ◌∙◌, ap, subst}
+use Rattle.std.proofs.Common.{◌≡◌, ◌≢◌, Bool, true, false, cond, ◌||◌, [], ◌∷◌, ◌++◌, Option, Some, None, is_some, IsSome, refl, sym, ◌∙◌, ap, subst}
 use Rattle.std.specs.Ordering.{eq_by_cmp, is_eq}
 use Rattle.std.specs.declared.cmp.Ordering.{Ordering}
 use Rattle.std.specs.declared.cmp.Ordering.TheVariants.{Less, Equal, Greater}
-use Rattle.std.specs.FinMap.{get, empty, insert, get-empty, get-insert}
-use Rattle.hd_path.specs.Paths.{IsPath, path_cmp}
+use Rattle.std.specs.FinMap.{get, insert, get-insert}
+use Rattle.hd_path.specs.Paths.{Path, IsPath, path_cmp}
 use Rattle.hd_scene.specs.Scenes.{Scene, IsClosed}
 use Rattle.hd_scene.specs.declared.prims.Entry.{Entry}
 use Rattle.hd_scene.proofs.Children.{path_cmp_total, path_cmp_exact}
+use Rattle.hd_path.specs.Names.{Name}
 
-not_there : (o : Option Entry) → o ≡ None → is_some o ≡ true → ⊥
-not_there o none some = let no : is_some o ≡ false = ap is_some none in cc
-
--- the scene without prims
-pub empty_closed : (scene : Scene) → scene ≡ empty → IsClosed scene
-empty_closed scene is =
-    let none : (q : List (List ℕ)) → get scene q ≡ None = λ q. ap (λ (s : Scene). get s q) is ∙ get-empty path_cmp q in
-    record {
-      no_root = none [];
-      parents = λ path name below there. absurd (not_there (get scene (path ++ name ∷ below ∷ [])) (none (path ++ name ∷ below ∷ [])) there);
-      paths = λ path there. absurd (not_there (get scene path) (none path) there);
-    }
-
-is_equal : (r : Ordering) → is_eq r ≡ true → r ≡ Equal
+-- a comparison that ties says that both are equal
+pub is_equal : (r : Ordering) → is_eq r ≡ true → r ≡ Equal
 is_equal Less h = cc
 is_equal Equal h = refl
 is_equal Greater h = cc
 
-pub tied : (p q : List (List ℕ)) → eq_by_cmp path_cmp p q ≡ true → p ≡ q
+pub tied : (p q : Path) → eq_by_cmp path_cmp p q ≡ true → p ≡ q
 tied p q h = path_cmp_exact p q (is_equal (path_cmp p q) h)
 
 -- what is there after a prim was put
-pub there-insert : (scene : Scene) (at : List (List ℕ)) (e : Entry) (p : List (List ℕ)) → is_some (get (insert scene at e) p) ≡ (eq_by_cmp path_cmp p at || is_some (get scene p))
+pub there-insert : (scene : Scene) (at : Path) (e : Entry) (p : Path) → is_some (get (insert scene at e) p) ≡ (eq_by_cmp path_cmp p at || is_some (get scene p))
 there-insert scene at e p = ap is_some (get-insert path_cmp_total scene at e p) ∙ choice (eq_by_cmp path_cmp p at)
   where
     choice : (b : Bool) → is_some (cond b (Some e) (get scene p)) ≡ (b || is_some (get scene p))
@@ -39,8 +28,8 @@ there-insert scene at e p = ap is_some (get-insert path_cmp_total scene at e p) 
     choice false = refl
 
 -- a prim below one that is there, or below the root, keeps the scene closed
-pub insert_closed : (scene : Scene) (at : List (List ℕ)) (e : Entry) → IsClosed scene → at ≢ [] → IsPath at
-    → ((front : List (List ℕ)) (name below : List ℕ) → at ≡ front ++ name ∷ below ∷ [] → IsSome (get scene (front ++ name ∷ [])))
+pub insert_closed : (scene : Scene) (at : Path) (e : Entry) → IsClosed scene → at ≢ [] → IsPath at
+    → ((front : Path) (name below : Name) → at ≡ front ++ name ∷ below ∷ [] → IsSome (get scene (front ++ name ∷ [])))
     → IsClosed (insert scene at e)
 insert_closed scene at e closed no_root is_path parent = record {
   no_root = none (get (insert scene at e) []) (there-insert scene at e [] ∙ ap (λ b. b || is_some (get scene [])) (off_root at no_root) ∙ ap is_some closed.no_root);
@@ -61,7 +50,7 @@ insert_closed scene at e closed no_root is_path parent = record {
     none None h = refl
     none (Some x) h = cc
 
-    off_root : (q : List (List ℕ)) → q ≢ [] → eq_by_cmp path_cmp [] q ≡ false
+    off_root : (q : Path) → q ≢ [] → eq_by_cmp path_cmp [] q ≡ false
     off_root [] h = absurd (h refl)
     off_root (x ∷ q) h = refl
 
@@ -69,7 +58,7 @@ insert_closed scene at e closed no_root is_path parent = record {
     or_true true = refl
     or_true false = refl
 
-    kept : (p : List (List ℕ)) → is_some (get scene p) ≡ true → is_some (get (insert scene at e) p) ≡ true
+    kept : (p : Path) → is_some (get scene p) ≡ true → is_some (get (insert scene at e) p) ≡ true
     kept p h = there-insert scene at e p ∙ ap (λ b. eq_by_cmp path_cmp p at || b) h ∙ or_true (eq_by_cmp path_cmp p at)
 
     either : (a b c : Bool) → (a ≡ true → c ≡ true) → (b ≡ true → c ≡ true) → (a || b) ≡ true → c ≡ true

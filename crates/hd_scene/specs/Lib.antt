@@ -1,3 +1,5 @@
 pub mod Scenes
+pub mod Filters
 pub mod Tells
 pub mod Laws
+pub mod inner

@@ -2,7 +2,7 @@
 
 ghost use Rattle.hd_scene.specs.Laws.{TellingComposes, NothingIsTold, AddedIsTold, RemovedIsTold, DirtiedIsTold, UntoldKeepTheirKinds, ToldWhereBothAre, ChildrenStandBelow, ChildrenAreOneList, AbsentHasNoChildren};
 
-/// Two steps that are told one after the other are told by both lists together.
+/// Notice lists compose: concatenated, they tell both steps.
 pub fn telling_composes()
     ensures { TellingComposes }
 {}
@@ -17,7 +17,7 @@ pub fn single_steps_are_told()
     ensures dirtied { DirtiedIsTold }
 {}
 
-/// A prim that is not told as a whole keeps its kind, or is in neither scene. So notices tell a step where they tell kinds,
+/// A prim that is not resynced keeps its kind, or is absent before and after. So notices tell a step where they tell kinds,
 /// and values of the prims that are in both scenes.
 pub fn untold_prims_keep_their_kinds()
     ensures kinds { UntoldKeepTheirKinds }

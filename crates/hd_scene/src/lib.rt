@@ -6,6 +6,7 @@ mod notice;
 mod notices;
 mod prims;
 mod scene_index;
+mod walk;
 
 pub use laws::{
     children_stand_below, single_steps_are_told, telling_composes, untold_prims_keep_their_kinds,
@@ -14,3 +15,4 @@ pub use notice::Notice;
 pub use notices::Notices;
 pub use prims::{Entry, Primitive as Prim};
 pub use scene_index::SceneIndex;
+pub use walk::all_paths;

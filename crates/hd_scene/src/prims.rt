@@ -1,19 +1,22 @@
 //! What a scene has at a path.
 
-ghost use Rattle.std.specs.Prelude.{◌≡◌, IfOk};
+ghost use Rattle.std.specs.Prelude.{◌≡◌, None, Option, IfOk};
+ghost use Rattle.hd_scene.specs.Scenes.{prim_of};
+ghost use Rattle.hd_scene.specs.declared.prims.Entry.{Entry};
 
 use hd_path::Token;
 use hd_value::Container;
-use std::alloc::AllocError;
+use std::alloc::{AllocError, Global};
 
-/// A prim of a scene: its kind, as `Mesh`, and its values.
+/// A prim of a scene, which is there: its kind, as `Mesh`, and its values.
 #[derive(Drop)]
 pub struct Entry {
     pub kind: Token,
     pub values: Container,
 }
 
-/// What stands at a path: a prim, or the empty kind and no values where there is none.
+/// The answer for a path: a prim, or the empty kind and no values where there is none. Crates above call it `Prim`: under
+/// that name the type itself clashes, in each of them, with the module that the checker makes for it.
 #[derive(Drop)]
 pub struct Primitive {
     pub kind: Token,
@@ -33,6 +36,40 @@ impl Entry {
 }
 
 impl Primitive {
+    /// The answer for a path at which no prim is.
+    pub fn absent(alloc: Global) -> Result<Primitive, AllocError>
+        ensures { IfOk result (λ prim. prim ≡ prim_of None) }
+    {
+        Ok(Primitive {
+            kind: Token::new(alloc, "")?,
+            values: None,
+        })
+    }
+
+    /// The answer for a path at which this prim is, or none.
+    pub fn of(alloc: Global, there: Option<Entry>) -> Result<Primitive, AllocError>
+        ensures { IfOk result (λ prim. prim ≡ prim_of there) }
+    {
+        match there {
+            Some(entry) => Ok(Primitive {
+                kind: entry.kind,
+                values: Some(entry.values),
+            }),
+            None => Primitive::absent(alloc),
+        }
+    }
+
+    /// The prim that was answered, if one is there.
+    pub fn into_entry(self) -> Option<Entry>
+        ensures { (there : Option Entry) → self ≡ prim_of there → result ≡ there }
+    {
+        let Primitive { kind, values } = self;
+        match values {
+            Some(values) => Some(Entry { kind, values }),
+            None => None,
+        }
+    }
+
     /// An equal prim, which shares what this one holds.
     pub fn copy(&self) -> Result<Primitive, AllocError>
         ensures { IfOk result (λ copied. copied ≡ self.now) }

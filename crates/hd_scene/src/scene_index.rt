@@ -2,7 +2,7 @@
 
 ghost use Rattle.std.specs.Prelude.{◌≡◌, ℕ, IfOk};
 ghost use Rattle.std.specs.FinMap.{get};
-ghost use Rattle.hd_scene.specs.Scenes.{Scene, prim_of, children_of, raised, IsClosed};
+ghost use Rattle.hd_scene.specs.Scenes.{Scene, prim_of, children_of, saturating_succ, IsClosed};
 
 use crate::prims::Primitive as Prim;
 use hd_num::List;
@@ -33,10 +33,10 @@ pub trait SceneIndex {
         ensures in_step { is_in_step self.new }
         ensures same_scene { scene self.new ≡ scene self.old }
         ensures same_origin { origin self.new ≡ origin self.old }
-        ensures pulled { pulls self.new ≡ raised (pulls self.old) };
+        ensures pulled { pulls self.new ≡ saturating_succ (pulls self.old) };
 
     /// The names of the prims immediately below a path, in byte order. An absent path has none, but for the root, below
-    /// which the outermost prims stand. Refused or not, the index stays as it is.
+    /// which the outermost prims are. Refused or not, the index stays as it is.
     fn children(&mut self, alloc: Global, path: &Path) -> Result<List<Token>, AllocError>
         requires { is_in_step self.old }
         ensures value { IfOk result (λ names. names ≡ children_of (scene self.old) path.now) }

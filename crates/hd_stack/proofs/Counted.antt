@@ -16,9 +16,8 @@ use Rattle.hd_layer.specs.declared.limits.Which.TheVariants.{Prims, Depth}
 use Rattle.hd_layer.specs.declared.spec.LayerSpec.{LayerSpec}
 use Rattle.hd_layer.specs.Limits.{limit_of}
 use Rattle.hd_layer.specs.WellFormed.{is_layer}
-use Rattle.hd_path.specs.Paths.{path_cmp}
-use Rattle.hd_value.specs.Locators.{is_prefix}
-use Rattle.hd_value.proofs.Prefixes.{and_true}
+use Rattle.hd_path.specs.Paths.{Path, path_cmp, is_prefix}
+use Rattle.hd_path.proofs.NamePrefixes.{and_true}
 use Rattle.hd_scene.proofs.Ascending.{keys_ascend}
 use Rattle.hd_scene.proofs.Children.{path_cmp_total}
 use Rattle.hd_scene.specs.Scenes.{Scene}
@@ -26,11 +25,11 @@ use Rattle.hd_scene.specs.declared.prims.Entry.{Entry}
 use Rattle.hd_retained.specs.declared.fault.EditFault.{EditFault}
 use Rattle.hd_retained.specs.declared.fault.EditFault.TheVariants.{NoPrim, PrimThere, UnderItself, Limit}
 use Rattle.hd_retained.specs.Layers.{LayerPrim, Layer, layer_of, prim_at_path, entry_at_path, scene_of}
-use Rattle.hd_retained.specs.Edits.{State, has_parent, is_full_for, changed, with_value, without_value, is_moved_too_deep, moved_prim, edited}
+use Rattle.hd_retained.specs.Edits.{State, has_parent, is_full_for, change_prim, with_value, without_value, is_moved_too_deep, moved_prim, edit_layer}
 use Rattle.hd_retained.proofs.Closed.{get-left}
-use Rattle.hd_merging.specs.Merges.{merged_entry, prims_at, merged}
-use Rattle.hd_flattening.specs.Flattened.{flat_entry, flattened}
-use Rattle.hd_stack.specs.Stacks.{composed, AreSound}
+use Rattle.hd_merging.specs.Merges.{merged_entry, prims_at, merged_scene}
+use Rattle.hd_flattening.specs.Flattened.{flat_entry, flattened_scene}
+use Rattle.hd_stack.specs.Stacks.{composed_scene, AreSound}
 use Rattle.hd_stack.specs.Laws.{ScenesAreBounded}
 use Rattle.hd_stack.proofs.Layered.{layers_of, input_layer}
 
@@ -59,7 +58,7 @@ keys_length : {X : Type 0} (m : FinMap path_cmp X) → length (keys m) ≡ len m
 keys_length m = length-map (entries m) (λ e. e.0) ∙ sym (len-entries m)
 
 -- a layer with fewer paths has at most as many prims
-len-fewer : (m n : Layer) → ((q : List (List ℕ)) → contains_key m q ≡ true → contains_key n q ≡ true) → len m ≤ len n
+len-fewer : (m n : Layer) → ((q : Path) → contains_key m q ≡ true → contains_key n q ≡ true) → len m ≤ len n
 len-fewer m n within =
     let counted = length-le_from_is_member (eq_by_cmp_equiv path_cmp_total) (keys m) (keys n) (IsDistinct-from_sorted path_cmp (keys m) (keys_ascend m)) (λ q there. sym (contains_key-keys n q) ∙ within q (contains_key-keys m q ∙ there)) in
     omega (arith, counted, keys_length m, keys_length n)
@@ -82,16 +81,16 @@ done layer new is = cc
 few_by : (layer new : Layer) → ◌≡◌ {A = Result Layer EditFault} (Ok layer) (Ok new) → IsFew layer → IsFew new
 few_by layer new is few = subst IsFew (done layer new is) few
 
-few_put : (layer : Layer) (path : List (List ℕ)) (p : LayerPrim) → is_full_for layer path ≡ false → IsFew layer → IsFew (insert layer path p)
+few_put : (layer : Layer) (path : Path) (p : LayerPrim) → is_full_for layer path ≡ false → IsFew layer → IsFew (insert layer path p)
 few_put layer path p room few =
     elim (contains_key layer path) as (λ b. (not b && nat_le (limit_of Prims) (len layer)) ≡ false → len (insert layer path p) ≡ cond b (len layer) (len layer + 1) → len (insert layer path p) ≤ limit_of Prims) [
       | true ↦ λ _ is. omega (arith, is, few)
       | false ↦ λ free is. omega (arith, is, leb-false (limit_of Prims) (len layer) free)
     ] room (len-insert path_cmp_total layer path p)
 
-few_changed : (change : LayerPrim → LayerPrim) (layer new : Layer) (path : List (List ℕ)) → changed change layer path (get layer path) ≡ Ok new → IsFew layer → IsFew new
+few_changed : (change : LayerPrim → LayerPrim) (layer new : Layer) (path : Path) → change_prim change layer path (get layer path) ≡ Ok new → IsFew layer → IsFew new
 few_changed change layer new path is few =
-    elim (get layer path) as (λ (o : Option LayerPrim). get layer path ≡ o → changed change layer path o ≡ Ok new → IsFew new) [
+    elim (get layer path) as (λ (o : Option LayerPrim). get layer path ≡ o → change_prim change layer path o ≡ Ok new → IsFew new) [
       | None ↦ λ _ wrong. cc
       | Some p ↦ λ there is. few_by (insert layer path (change p)) new is (few_there p there)
     ] refl is
@@ -101,16 +100,16 @@ few_changed change layer new path is few =
         let same : len (insert layer path (change p)) ≡ len layer = len-insert path_cmp_total layer path (change p) ∙ ap (λ (o : Option LayerPrim). cond (is_some o) (len layer) (len layer + 1)) there in
         omega (arith, same, few)
 
-few_left : (layer : Layer) (path : List (List ℕ)) → IsFew layer → IsFew (retain_keys layer (λ p. not (is_prefix path p)))
+few_left : (layer : Layer) (path : Path) → IsFew layer → IsFew (retain_keys layer (λ p. not (is_prefix path p)))
 few_left layer path few =
     let fewer = len-fewer (retain_keys layer (λ p. not (is_prefix path p))) layer (λ q there. kept q (not (is_prefix path q)) (ap is_some (sym (get-left layer path q)) ∙ there)) in
     omega (arith, fewer, few)
   where
-    kept : (q : List (List ℕ)) (b : Bool) → is_some (cond b (get layer q) None) ≡ true → contains_key layer q ≡ true
+    kept : (q : Path) (b : Bool) → is_some (cond b (get layer q) None) ≡ true → contains_key layer q ≡ true
     kept q true there = there
     kept q false there = cc
 
-few_moved : (layer new : Layer) (from to : List (List ℕ)) → edited layer (Rename from to) ≡ Ok new → IsFew layer → IsFew new
+few_moved : (layer new : Layer) (from to : Path) → edit_layer layer (Rename from to) ≡ Ok new → IsFew layer → IsFew new
 few_moved layer new from to is few =
     let answer : Result Layer EditFault = Ok (from_entries (map (moved_prim from to) (entries layer))) in
     let deep : Result Layer EditFault = if list_any (is_moved_too_deep from to) (keys layer) then Err (Limit Depth) else answer in
@@ -125,7 +124,7 @@ few_moved layer new from to is few =
     few_by (from_entries (map (moved_prim from to) (entries layer))) new shallow.1 (omega (arith, len-mapped path_cmp_total (moved_prim from to) layer, few))
 
 -- an edit keeps a layer within its limit
-pub few_edited : (layer new : Layer) (edit : Edit) → edited layer edit ≡ Ok new → len layer ≤ limit_of Prims → len new ≤ limit_of Prims
+pub few_edited : (layer new : Layer) (edit : Edit) → edit_layer layer edit ≡ Ok new → len layer ≤ limit_of Prims → len new ≤ limit_of Prims
 few_edited layer new (Define kind path) is few =
     let p : LayerPrim = record { kind = kind; properties = empty } in
     let parent = past (not (has_parent layer path)) NoPrim (if is_full_for layer path then Err (Limit Prims) else Ok (insert layer path p)) new is in
@@ -150,14 +149,14 @@ few_read l is =
 len-scene : (layer : Layer) → len (scene_of layer) ≤ len layer
 len-scene layer = len-mapped path_cmp_total entry_at_path layer
 
-len-merged : (scenes : List Scene) → len (merged scenes) ≤ length (flat_map keys scenes)
-unfolding merged
+len-merged : (scenes : List Scene) → len (merged_scene scenes) ≤ length (flat_map keys scenes)
+unfolding merged_scene
 len-merged scenes =
     let given : List (List ℕ) → Option (List (List ℕ) × Entry) = λ path. option_map (λ (x : Entry). (path, x)) (merged_entry (prims_at scenes path)) in
     omega (arith, len-from_entries path_cmp_total (filter_map given (flat_map keys scenes)), length-filter_map given (flat_map keys scenes))
 
-len-flattened : (scene : Scene) → len (flattened scene) ≤ len scene
-unfolding flattened
+len-flattened : (scene : Scene) → len (flattened_scene scene) ≤ len scene
+unfolding flattened_scene
 len-flattened scene = len-mapped path_cmp_total (λ (e : List (List ℕ) × Entry). (e.0, flat_entry scene e.0 e.1)) scene
 
 paths_of_scenes : (layers : List Layer) → AreSound layers → length (flat_map keys (map scene_of layers)) ≤ limit_of Prims * length layers
@@ -168,7 +167,7 @@ paths_of_scenes (layer ∷ layers) sound =
     omega (arith, own, rest, len-scene layer, keys_length (scene_of layer), length-append (keys (scene_of layer)) (flat_map keys (map scene_of layers)))
 
 pub scenes_bounded : ScenesAreBounded
-scenes_bounded layers sound = omega (arith, len-flattened (composed layers), len-merged (map scene_of layers), paths_of_scenes layers sound)
+scenes_bounded layers sound = omega (arith, len-flattened (composed_scene layers), len-merged (map scene_of layers), paths_of_scenes layers sound)
 
 -- and so is the layer of an input of sound ones, and what an edit of it leaves
 pub few_input : (inputs : List State) (k : ℕ) (r : State) → k < length inputs → slice_get inputs k ≡ Some r → AreSound (layers_of inputs) → len r.layer ≤ limit_of Prims

@@ -12,11 +12,11 @@ use Rattle.hd_value.specs.Schema.{is_authored, is_instanced}
 use Rattle.hd_scene.specs.Scenes.{Scene, IsClosed, SceneConforms}
 use Rattle.hd_retained.specs.Edits.{State}
 use Rattle.hd_retained.specs.Layers.{Layer, layer_of, scene_of}
-use Rattle.hd_merging.specs.Merges.{merged}
+use Rattle.hd_merging.specs.Merges.{merged_scene}
 use Rattle.hd_merging.proofs.Conforming.{merged_conforms}
 use Rattle.hd_layer.specs.declared.limits.Which.TheVariants.{Layers}
 use Rattle.hd_layer.specs.Limits.{limit_of}
-use Rattle.hd_stack.specs.Stacks.{composed, layer_at, IsSound, IsStack, AreSound}
+use Rattle.hd_stack.specs.Stacks.{composed_scene, layer_at, IsSound, IsStack, AreSound}
 
 abbrev pub layers_of : List State → List Layer
 layers_of inputs = map (λ (r : State). r.layer) inputs
@@ -30,7 +30,7 @@ fused inputs = map-map scene_of (λ (r : State). r.layer) inputs
 or_first : (a b : Bool) → a ≡ true → (a || b) ≡ true
 or_first a b h = ap (λ t. t || b) h
 
--- what a layer authors may stand behind instancing
+-- what a layer authors may be there after instancing
 pub conforms_more : (scene : Scene) → SceneConforms is_authored scene → SceneConforms is_instanced scene
 conforms_more scene conforms path e there at v is = or_first (is_authored at v) _ (conforms path e there at v is)
 
@@ -42,11 +42,11 @@ inputs_closed (r ∷ inputs) all (suc k) d l = inputs_closed inputs (λ j e m. a
 layers_conform : (layers : List Layer) → AreSound layers → All (SceneConforms is_instanced) (map scene_of layers)
 layers_conform layers all = All-map (SceneConforms is_instanced) scene_of layers (λ k d l. conforms_more (scene_of (slice_index_or layers k d)) (all k d l).conforms)
 
-pub composed_conforms : (layers : List Layer) → AreSound layers → SceneConforms is_instanced (composed layers)
+pub composed_conforms : (layers : List Layer) → AreSound layers → SceneConforms is_instanced (composed_scene layers)
 composed_conforms layers all = merged_conforms is_instanced (map scene_of layers) (layers_conform layers all)
 
-pub terminal_conforms : (inputs : List State) → AreSound (layers_of inputs) → SceneConforms is_instanced (merged (scenes_of inputs))
-terminal_conforms inputs all = subst (λ (ss : List Scene). SceneConforms is_instanced (merged ss)) (fused inputs) (composed_conforms (layers_of inputs) all)
+pub terminal_conforms : (inputs : List State) → AreSound (layers_of inputs) → SceneConforms is_instanced (merged_scene (scenes_of inputs))
+terminal_conforms inputs all = subst (λ (ss : List Scene). SceneConforms is_instanced (merged_scene ss)) (fused inputs) (composed_conforms (layers_of inputs) all)
 
 -- the layer of the input of a number
 pub input_layer : (inputs : List State) (k : ℕ) (r : State) → slice_get inputs k ≡ Some r → layer_at (layers_of inputs) k ≡ r.layer
@@ -106,5 +106,5 @@ layers_all inputs left layers none before =
     sym (before ∙ ap (λ (specs : List LayerSpec). layers_of inputs ++ map layer_of specs) (none_left left none) ∙ append-nil (layers_of inputs))
 
 -- what is asked is what the layers give
-pub same_scene : (inputs : List State) → merged (scenes_of inputs) ≡ composed (layers_of inputs)
-same_scene inputs = ap merged (sym (fused inputs))
+pub same_scene : (inputs : List State) → merged_scene (scenes_of inputs) ≡ composed_scene (layers_of inputs)
+same_scene inputs = ap merged_scene (sym (fused inputs))

@@ -1,4 +1,4 @@
 pub mod Stacks
 pub mod Scenes
-pub mod Kinds
 pub mod Laws
+pub mod inner

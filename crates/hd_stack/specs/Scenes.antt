@@ -2,12 +2,12 @@
 use Rattle.std.specs.Prelude.{List}
 use Rattle.hd_scene.specs.Scenes.{IsClosed}
 use Rattle.hd_retained.specs.Layers.{Layer, scene_of}
-use Rattle.hd_merging.specs.MergedScenes.{inputs_closed}
+use Rattle.hd_merging.specs.inner.MergedScenes.{inputs_closed}
 use Rattle.hd_flattening.specs.Scenes.{flattened_closed}
-use Rattle.hd_stack.specs.Stacks.{composed, terminal_scene, IsSound, AreSound}
+use Rattle.hd_stack.specs.Stacks.{composed_scene, terminal_scene, IsSound, AreSound}
 
-pub composed_closed : (layers : List Layer) → AreSound layers → IsClosed (composed layers)
+pub composed_closed : (layers : List Layer) → AreSound layers → IsClosed (composed_scene layers)
 composed_closed layers sound = inputs_closed scene_of IsSound (λ layer is. is.closed) layers sound
 
 pub terminal_closed : (layers : List Layer) → AreSound layers → IsClosed (terminal_scene layers)
-terminal_closed layers sound = flattened_closed (composed layers) (composed_closed layers sound)
+terminal_closed layers sound = flattened_closed (composed_scene layers) (composed_closed layers sound)

@@ -8,12 +8,12 @@ use Rattle.hd_layer.specs.Limits.{limit_of}
 use Rattle.hd_value.specs.Schema.{is_authored}
 use Rattle.hd_scene.specs.Scenes.{Scene, IsClosed, SceneConforms}
 use Rattle.hd_retained.specs.declared.fault.EditFault.{EditFault}
-use Rattle.hd_retained.specs.Layers.{Layer, layer_code, scene_of}
-use Rattle.hd_retained.specs.Edits.{State, edited}
+use Rattle.hd_retained.specs.Layers.{Layer, layer_code, scene_of, AreUsed}
+use Rattle.hd_retained.specs.Edits.{State, edit_layer}
 use Rattle.hd_merging.specs.Merged.{Merged}
-use Rattle.hd_merging.specs.Merges.{merged}
-use Rattle.hd_flattening.specs.Filters.{Filter}
-use Rattle.hd_flattening.specs.Flattened.{flattened}
+use Rattle.hd_merging.specs.Merges.{merged_scene}
+use Rattle.hd_scene.specs.Filters.{FilterState}
+use Rattle.hd_flattening.specs.Flattened.{flattened_scene}
 
 -- the layers, and how often the stack was asked for a prim
 pub record Stacked : Type 0 where
@@ -24,12 +24,12 @@ abbrev pub stacked_code : Coded Stacked
 stacked_code = code_by (List Layer × ℕ) (coded× (coded_list layer_code) coded_ℕ) (λ s. (s.layers, s.pulls)) (λ p. record { layers = p.0; pulls = p.1 }) (λ _. refl)
 
 -- the scene that the layers author together
-abbrev pub composed : List Layer → Scene
-composed layers = merged (map scene_of layers)
+abbrev pub composed_scene : List Layer → Scene
+composed_scene layers = merged_scene (map scene_of layers)
 
 -- the same, where each prim has what it takes from those above it
 abbrev pub terminal_scene : List Layer → Scene
-terminal_scene layers = flattened (composed layers)
+terminal_scene layers = flattened_scene (composed_scene layers)
 
 -- the layer of this number
 abbrev pub layer_at : List Layer → ℕ → Layer
@@ -42,12 +42,13 @@ with_layer layers number (Err fault) = Err fault
 
 -- the layers after an edit of the one of this number, or the refusal, which that layer alone decides
 abbrev pub edited_at : List Layer → ℕ → Edit → Result (List Layer) EditFault
-edited_at layers number edit = with_layer layers number (edited (layer_at layers number) edit)
+edited_at layers number edit = with_layer layers number (edit_layer (layer_at layers number) edit)
 
--- the paths of a layer are paths, each prim has its parent, and has values that a text can author; and there are no more
--- prims than a layer may have
+-- the paths of a layer are paths, each prim has its parent, used properties alone, and values that a text can author; and there
+-- are no more prims than a layer may have
 pub record IsSound (layer : Layer) : Type 0 where
   pub closed : IsClosed (scene_of layer)
+  pub used : AreUsed layer
   pub conforms : SceneConforms is_authored (scene_of layer)
   pub few : len layer ≤ limit_of Prims
 
@@ -61,5 +62,5 @@ pub record IsStack (layers : List Layer) : Type 0 where
   pub sound : AreSound layers
 
 -- the layers at the inputs of a terminal
-abbrev pub layers_in : Filter (Merged State) → List Layer
+abbrev pub layers_in : FilterState (Merged State) → List Layer
 layers_in terminal = map (λ (r : State). r.layer) terminal.input.inputs

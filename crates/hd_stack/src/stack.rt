@@ -8,8 +8,8 @@ ghost use Rattle.hd_layer.specs.declared.limits.Which.TheVariants.{Layers};
 ghost use Rattle.hd_scene.specs.Scenes.{kind_at};
 ghost use Rattle.hd_retained.specs.Edits.{IsRefusal};
 ghost use Rattle.hd_retained.specs.Layers.{layer_of, ArePathsFrom};
-ghost use Rattle.hd_stack.specs.Kinds.{is_named, kind_over};
-ghost use Rattle.hd_stack.specs.Stacks.{composed, terminal_scene, layers_in, layer_at, edited_at, IsSound, IsStack, AreSound};
+ghost use Rattle.hd_stack.specs.inner.Kinds.{is_named, kind_over};
+ghost use Rattle.hd_stack.specs.Stacks.{composed_scene, terminal_scene, layers_in, layer_at, edited_at, IsSound, IsStack, AreSound};
 
 use hd_flattening::Flattening;
 use hd_layer::{Edit, LayerSpec};
@@ -45,7 +45,7 @@ impl Model for Stack {
 
 impl Stack {
     /// The stack of layers that were read, from one to eight, of which the first is the strongest. The call fails for
-    /// want of memory alone.
+    /// lack of memory alone.
     pub fn new(alloc: Global, layers: Vec<LayerSpec>) -> Result<Stack, AllocError>
         requires some { 1 ≤ vec_len layers }
         requires few { vec_len layers ≤ 8 }
@@ -86,7 +86,7 @@ impl Stack {
 
     /// The kind of the prim at a path: the first that is not empty, of the layers that have a prim there.
     pub fn kind(&self, path: &Path) -> Result<Option<&Token>, AllocError>
-        ensures { IfOk result (λ kind. option_copied kind ≡ kind_at (composed self.now.layers) path.now) }
+        ensures { IfOk result (λ kind. option_copied kind ≡ kind_at (composed_scene self.now.layers) path.now) }
     {
         kind_of(self.terminal.input(), path)
     }
@@ -149,6 +149,7 @@ fn input_of(alloc: Global, layer: LayerSpec) -> Result<Retained, AllocError>
     let input = Retained::from_layer(alloc, layer)?;
     input.is_in_step();
     input.conforms();
+    input.has_used_properties();
     Ok(input)
 }
 
@@ -172,6 +173,7 @@ fn edit_input(
     let done = input.edit(alloc, edit);
     input.is_in_step();
     input.conforms();
+    input.has_used_properties();
     done?;
     Ok(())
 }
@@ -196,9 +198,9 @@ fn kind_over<'a>(strong: Option<&'a Token>, weak: Option<&'a Token>) -> Option<&
     weak.or(strong)
 }
 
-/// The kind of the prim that the inputs together have at a path. No input behind the one that decides is asked.
+/// The kind of the prim that the inputs together have at a path. No input after the one that decides is asked.
 fn kind_of<'a>(inputs: &'a Merging<Retained>, path: &Path) -> Result<Option<&'a Token>, AllocError>
-    ensures { IfOk result (λ kind. option_copied kind ≡ kind_at (composed (map (λ r. r.layer) inputs.now.inputs)) path.now) }
+    ensures { IfOk result (λ kind. option_copied kind ≡ kind_at (composed_scene (map (λ r. r.layer) inputs.now.inputs)) path.now) }
 {
     let mut found = None;
     for k in 0..inputs.count() {

@@ -7,7 +7,7 @@ use Rattle.hd_value.specs.Maps.{Map}
 use Rattle.hd_tokens.specs.Locators.{matrix_at, visibility_at, purpose_at, binding_at, color_at}
 use Rattle.hd_flattening.specs.Flat.{flat_matrix, flat_purpose, flat_binding, first_of}
 use Rattle.hd_flattening.specs.Flattened.{matrix_value}
-use Rattle.hd_flattening.specs.FlatLocators.{with_all_passed, binding_value}
+use Rattle.hd_flattening.specs.inner.FlatLocators.{with_all_passed, binding_value}
 use Rattle.hd_flattening.proofs.Building.{built, empty_within, put_more}
 use Rattle.hd_flattening.proofs.flat.flat_values.Goals as goal
 

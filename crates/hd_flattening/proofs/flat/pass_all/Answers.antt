@@ -1,14 +1,15 @@
 use Rattle.std.proofs.Common.{◌≡◌, ℕ, List, [], slice_index_or, ap, subst, ◌∙◌}
 use Rattle.std.specs.Prelude.{OnOk}
 use Rattle.hd_value.specs.Maps.{Map}
-use Rattle.hd_flattening.specs.FlatLocators.{passed_locators, with_passed}
+use Rattle.hd_flattening.specs.inner.FlatLocators.{passed_locators, with_passed}
 use Rattle.hd_flattening.proofs.flat.pass_all.Goals as goal
+use Rattle.hd_tokens.specs.Locators.{Locator}
 
 -- the locators by their numbers
 abbrev place : ℕ → List (List ℕ)
 place number = slice_index_or passed_locators number []
 
-more : (prim : Map) (at : List (List ℕ)) {before now next : Map} → next ≡ with_passed prim now at → now ≡ before → next ≡ with_passed prim before at
+more : (prim : Map) (at : Locator) {before now next : Map} → next ≡ with_passed prim now at → now ≡ before → next ≡ with_passed prim before at
 more prim at put is = put ∙ ap (λ (m : Map). with_passed prim m at) is
 
 pub returns : goal.returns

@@ -3,7 +3,7 @@ use Rattle.std.proofs.lemmas.Result.{IfOk-weaker}
 use Rattle.std.specs.FinMap.{get}
 use Rattle.hd_scene.specs.Scenes.{Scene, prim_of}
 use Rattle.hd_flattening.specs.Flat.{ancestors}
-use Rattle.hd_flattening.specs.Inheriting.{inherited_from, prim_values}
+use Rattle.hd_flattening.specs.inner.Inheriting.{inherited_from, prim_values}
 use Rattle.hd_flattening.proofs.Walking.{ancestors-parent}
 use Rattle.hd_flattening.proofs.flattening.+inherited_at.Goals as goal
 

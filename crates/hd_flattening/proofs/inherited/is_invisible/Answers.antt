@@ -1,7 +1,7 @@
 use Rattle.std.proofs.Common.{◌≡◌, ℕ, List, false, codes, Option, Some, None, ap, ◌∙◌}
 use Rattle.std.specs.FinMap.{get}
 use Rattle.std.specs.Option.{option_map_or}
-use Rattle.hd_value.specs.Locators.{is_same}
+use Rattle.hd_path.specs.Names.{is_same}
 use Rattle.hd_tokens.specs.Locators.{visibility_at}
 use Rattle.hd_flattening.specs.Values.{token_of}
 use Rattle.hd_flattening.proofs.inherited.is_invisible.Goals as goal

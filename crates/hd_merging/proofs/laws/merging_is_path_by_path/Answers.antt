@@ -1,4 +1,4 @@
-use Rattle.hd_merging.specs.MergedScenes.{get-merged, there-merged}
+use Rattle.hd_merging.specs.inner.MergedScenes.{get-merged, there-merged}
 use Rattle.hd_merging.proofs.Apart.{value_at-strongest}
 use Rattle.hd_merging.proofs.Conforming.{value_at-merged}
 use Rattle.hd_merging.proofs.laws.merging_is_path_by_path.Goals as goal

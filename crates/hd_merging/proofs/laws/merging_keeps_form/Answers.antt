@@ -1,4 +1,4 @@
-use Rattle.hd_merging.specs.MergedScenes.{merged_closed}
+use Rattle.hd_merging.specs.inner.MergedScenes.{merged_closed}
 use Rattle.hd_merging.proofs.Conforming.{merged_conforms}
 use Rattle.hd_merging.proofs.laws.merging_keeps_form.Goals as goal
 

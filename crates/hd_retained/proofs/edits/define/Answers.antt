@@ -2,7 +2,7 @@ use Rattle.std.proofs.Common.{◌≡◌, true, sym, ◌∙◌, subst}
 use Rattle.hd_scene.specs.Scenes.{IsClosed}
 use Rattle.hd_retained.specs.Layers.{Layer, scene_of}
 use Rattle.hd_retained.specs.Edits.{has_parent}
-use Rattle.hd_retained.specs.Indexed.{prim_of, layer_in}
+use Rattle.hd_retained.specs.inner.Indexed.{prim_of, layer_in}
 use Rattle.hd_retained.proofs.Closed.{define_closed}
 use Rattle.hd_retained.proofs.edits.define.Goals as goal
 

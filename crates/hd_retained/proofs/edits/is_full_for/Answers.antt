@@ -2,7 +2,7 @@ use Rattle.std.proofs.Common.{◌≡◌, ℕ, false, not, ◌&&◌, nat_le, is_s
 use Rattle.std.specs.FinMap.{get, len}
 use Rattle.hd_layer.specs.declared.limits.Which.TheVariants.{Prims}
 use Rattle.hd_layer.specs.Limits.{limit_of}
-use Rattle.hd_retained.specs.Indexed.{layer_in}
+use Rattle.hd_retained.specs.inner.Indexed.{layer_in}
 use Rattle.hd_retained.proofs.Kept.{there_found, len-kept}
 use Rattle.hd_retained.proofs.edits.is_full_for.Goals as goal
 

@@ -3,17 +3,17 @@ use Rattle.std.proofs.lemmas.List.{take_all}
 use Rattle.std.specs.FinMap.{insert, from_entries}
 use Rattle.hd_path.specs.Paths.{path_cmp}
 use Rattle.hd_scene.specs.Scenes.{IsClosed}
-use Rattle.hd_retained.specs.declared.held.Place.{Place}
-use Rattle.hd_retained.specs.declared.held.Held.{Held}
+use Rattle.hd_retained.specs.declared.stored.DepthKey.{DepthKey}
+use Rattle.hd_retained.specs.declared.stored.StoredPrim.{StoredPrim}
 use Rattle.hd_retained.specs.Layers.{LayerPrim, Layer, spelled_prim, layer_of, scene_of}
-use Rattle.hd_retained.specs.Indexed.{layer_in, prim_of, prim_at}
+use Rattle.hd_retained.specs.inner.Indexed.{layer_in, prim_of, prim_at}
 use Rattle.hd_retained.proofs.Spelled.{ArePaths, layer_from, no_paths, next_paths, empty_sound, next_formed, next_layer, spelled_closed}
 use Rattle.hd_retained.proofs.prims.of_layer.Goals as goal
 
 pub loop-spec-init : goal.loop-spec-init
 loop-spec-init c = record {
   sound = empty_sound c.new-prims.result c.new-prims.ensures.empty;
-  layer = ap (λ (es : List (Place × Held)). from_entries {R = path_cmp} (map prim_at es)) c.new-prims.ensures.empty;
+  layer = ap (λ (es : List (DepthKey × StoredPrim)). from_entries {R = path_cmp} (map prim_at es)) c.new-prims.ensures.empty;
   paths = no_paths;
 }
 

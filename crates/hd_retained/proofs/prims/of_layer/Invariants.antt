@@ -1,5 +1,5 @@
 use Rattle.std.proofs.Common.{◌≡◌, take}
-use Rattle.hd_retained.specs.Indexed.{layer_in, IsSound}
+use Rattle.hd_retained.specs.inner.Indexed.{layer_in, IsSound}
 use Rattle.hd_retained.proofs.Spelled.{ArePaths, layer_from}
 use Rattle.hd_retained.proofs.prims.of_layer.Given as goal
 

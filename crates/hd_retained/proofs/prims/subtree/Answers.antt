@@ -6,18 +6,18 @@ pub loop-depth-init : goal.loop-depth-init
 loop-depth-init c =
     let m = c.args.prims.now in
     let path = c.args.path.now in
-    subst (λ (n : ℕ). IsGathered m path n c.new-places.result.items) (sym c.depth-depth.ensures.names)
-    (subst (IsGathered m path _) (sym c.new-places.ensures.items) (gathered_none m path))
+    subst (λ (n : ℕ). IsGathered m path n c.new-keys.result.items) (sym c.depth-depth.ensures.names)
+    (subst (IsGathered m path _) (sym c.new-keys.ensures.items) (gathered_none m path))
 
 pub loop-depth-preserved : goal.loop-depth-preserved
 loop-depth-preserved c =
     let m = c.args.prims.now in
     let path = c.args.path.now in
-    subst (IsGathered m path (c.loop-depth.depth + 1)) (sym c.in_ok-add_depth.ensures.added) (gathered_more m path c.loop-depth.depth c.loop-depth.places.items c.requires.sound c.in_ok-add_depth.ensures.ordered c.loop-depth.invariant)
+    subst (IsGathered m path (c.loop-depth.depth + 1)) (sym c.in_ok-add_depth.ensures.added) (gathered_more m path c.loop-depth.depth c.loop-depth.keys.items c.requires.sound c.in_ok-add_depth.ensures.ordered c.loop-depth.invariant)
 
 pub returns : goal.returns
 returns c =
     let m = c.args.prims.now in
     let path = c.args.path.now in
     let all : c.loop-depth.depth ≡ 33 = omega (arith, c.depth-depth.ensures.bound) in
-    gathered_all m path c.loop-depth.places.items c.requires (subst (λ (n : ℕ). IsGathered m path n c.loop-depth.places.items) all c.loop-depth.invariant)
+    gathered_all m path c.loop-depth.keys.items c.requires (subst (λ (n : ℕ). IsGathered m path n c.loop-depth.keys.items) all c.loop-depth.invariant)

@@ -17,7 +17,7 @@ returns-in_err-done-clause-stack c =
     let stack : IsStack (layers_of m.inputs) = subst (λ (n : Merged State). IsStack (layers_of n.inputs)) (sym c.input_mut.ensures.value) c.requires.stack in
     let before = few_input m.inputs c.args.layer c.input_mut-input.result.now (subst (λ (n : Merged State). c.args.layer < length n.inputs) (sym c.input_mut.ensures.value) c.requires.below) c.input_mut-input.ensures.value stack.sound in
     let few = subst (λ (s : State). len s.layer ≤ limit_of Prims) (sym c.in_err-done.ensures.err) before in
-    let own : IsSound c.edit-done.new.self.layer = record { closed = c.is_in_step.ensures; conforms = c.conforms.ensures; few = few } in
+    let own : IsSound c.edit-done.new.self.layer = record { closed = c.is_in_step.ensures; used = c.has_used_properties.ensures; conforms = c.conforms.ensures; few = few } in
     stack_set m.inputs c.args.layer c.edit-done.new.self own stack
 
 pub returns-in_err-done-clause-refusal : goal.returns-in_err-done-clause-refusal
@@ -42,7 +42,7 @@ returns-clause-stack c =
     let stack : IsStack (layers_of m.inputs) = subst (λ (n : Merged State). IsStack (layers_of n.inputs)) (sym c.input_mut.ensures.value) c.requires.stack in
     let before = few_input m.inputs c.args.layer c.input_mut-input.result.now (subst (λ (n : Merged State). c.args.layer < length n.inputs) (sym c.input_mut.ensures.value) c.requires.below) c.input_mut-input.ensures.value stack.sound in
     let few = few_edited c.input_mut-input.result.now.layer c.edit-done.new.self.layer c.args.edit.now c.in_ok-done.ensures.done before in
-    let own : IsSound c.edit-done.new.self.layer = record { closed = c.is_in_step.ensures; conforms = c.conforms.ensures; few = few } in
+    let own : IsSound c.edit-done.new.self.layer = record { closed = c.is_in_step.ensures; used = c.has_used_properties.ensures; conforms = c.conforms.ensures; few = few } in
     stack_set m.inputs c.args.layer c.edit-done.new.self own stack
 
 pub returns-clause-done : goal.returns-clause-done

@@ -9,6 +9,7 @@ use Rattle.hd_stack.proofs.stack.input_of.Goals as goal
 pub returns-clause-sound : goal.returns-clause-sound
 returns-clause-sound c = record {
   closed = c.is_in_step.ensures;
+  used = c.has_used_properties.ensures;
   conforms = c.conforms.ensures;
   few = subst (λ (l : Layer). len l ≤ limit_of Prims) (sym c.in_ok-input.ensures.layer) (few_read c.args.layer c.requires);
 }
