@@ -1,10 +1,10 @@
 -- Acts that follow one another.
-use Rattle.std.proofs.Common.{◌≡◌, ◌⊎◌, ℕ, ◌∙◌, List, [], ◌∷◌, ◌++◌, Option, Some, None, refl, sym, ap, subst, inl, inr}
+use Rattle.std.proofs.Common.{◌≡◌, ℕ, ◌∙◌, List, [], ◌∷◌, ◌++◌, Bool, false, Option, Some, None, refl, sym, ap, subst, inl, inr}
 use Rattle.std.proofs.lemmas.List.{append_assoc}
 use Rattle.std.specs.Option.{option_map}
 use Rattle.hd_io.specs.Files.{FileList}
 use Rattle.hd_io.specs.Causes.{Rose}
-use Rattle.hd_io.specs.Acts.{Act, file, line, files_of, text_of, Cut, Outside, Adds, Wrote, WroteCut, NoFault}
+use Rattle.hd_io.specs.Acts.{Act, file, line, files_of, text_of, open_after, Cut, Outside, Adds, Wrote, WroteCut, NoFault, WriteFailed}
 use Rattle.hd_io.proofs.Cuts.{cut_nothing}
 
 pub same_faults : (before : Outside) → NoFault before before
@@ -33,27 +33,35 @@ added {A} before mid now first more e f = f ∙ ap (λ (held : Option (List A)).
 adds_joined : (files more_files : FileList) (text more_text : List ℕ) (before mid now : Outside)
     → Adds files text before mid → Adds more_files more_text mid now → Adds (files ++ more_files) (text ++ more_text) before now
 adds_joined files more_files text more_text before mid now first more = record {
-  files_added = added before.files mid.files now.files files more_files first.files_added more.files_added;
-  text_added = added before.text mid.text now.text text more_text first.text_added more.text_added;
+  files_added = added before.rack.files mid.rack.files now.rack.files files more_files first.files_added more.files_added;
+  text_added = added before.sink.text mid.sink.text now.sink.text text more_text first.text_added more.text_added;
 }
+
+open_joined : (first more : List Act) (is_open : Bool) → open_after (first ++ more) is_open ≡ open_after more (open_after first is_open)
+open_joined [] more is_open = refl
+open_joined (file name bytes ∷ acts) more is_open = open_joined acts more false
+open_joined (line bytes ∷ acts) more is_open = open_joined acts more is_open
 
 -- what was written whole, and then whole
 pub wrote_joined : (first more : List Act) (before mid now : Outside) → Wrote first before mid → Wrote more mid now → Wrote (first ++ more) before now
 wrote_joined first more before mid now a b =
-    let all = adds_joined (files_of first) (files_of more) (text_of first) (text_of more) before mid now a b in
+    let all = adds_joined (files_of first) (files_of more) (text_of first) (text_of more) before mid now a.added b.added in
     let F : FileList → Type 0 = λ files. Adds files (text_of first ++ text_of more) before now in
     let T : List ℕ → Type 0 = λ text. Adds (files_of (first ++ more)) text before now in
-    subst T (sym (text_joined first more)) (subst F (sym (files_joined first more)) all)
+    record {
+      added = subst T (sym (text_joined first more)) (subst F (sym (files_joined first more)) all);
+      is_open = b.is_open ∙ ap (open_after more) a.is_open ∙ sym (open_joined first more before.rack.is_open);
+    }
 
-cut_behind : (first more : List Act) (files : FileList) (text : List ℕ) → Cut more files text → Cut (first ++ more) (files_of first ++ files) (text_of first ++ text)
-cut_behind [] more files text cut = cut
-cut_behind (file name bytes ∷ acts) more files text cut = inr (inr (files_of acts ++ files, refl, cut_behind acts more files text cut))
-cut_behind (line bytes ∷ acts) more files text cut = inr (inr (text_of acts ++ text, append_assoc bytes (text_of acts) text, cut_behind acts more files text cut))
+cut_after : (first more : List Act) (files : FileList) (text : List ℕ) → Cut more files text → Cut (first ++ more) (files_of first ++ files) (text_of first ++ text)
+cut_after [] more files text cut = cut
+cut_after (file name bytes ∷ acts) more files text cut = inr (inr (files_of acts ++ files, refl, cut_after acts more files text cut))
+cut_after (line bytes ∷ acts) more files text cut = inr (inr (text_of acts ++ text, append_assoc bytes (text_of acts) text, cut_after acts more files text cut))
 
--- what was written whole, and then broken off
+-- what was written whole, and then interrupted
 pub cut_joined : (first more : List Act) (before mid now : Outside) → Wrote first before mid → WroteCut more mid now → WroteCut (first ++ more) before now
 cut_joined first more before mid now a cut =
-    (files_of first ++ cut.0, text_of first ++ cut.1, cut_behind first more cut.0 cut.1 cut.2, adds_joined (files_of first) cut.0 (text_of first) cut.1 before mid now a cut.3)
+    (files_of first ++ cut.0, text_of first ++ cut.1, cut_after first more cut.0 cut.1 cut.2, adds_joined (files_of first) cut.0 (text_of first) cut.1 before mid now a.added cut.3)
 
 nothing_of_more : (more : List Act) (files : FileList) (text : List ℕ) → (files ≡ []) × (text ≡ []) → Cut more files text
 nothing_of_more more files text none =
@@ -81,12 +89,12 @@ wrote_cut_of_none acts before now cut = (cut.0, cut.1, nothing_of_more acts cut.
 pub faults_joined : (before mid now : Outside) → NoFault before mid → NoFault mid now → NoFault before now
 faults_joined before mid now a b = record { rack = b.rack ∙ a.rack; sink = b.sink ∙ a.sink }
 
--- a fault behind what was written whole
-pub rose_behind : (before mid now : Outside) → NoFault before mid
-    → Rose mid.rack_faults now.rack_faults ⊎ Rose mid.sink_faults now.sink_faults
-    → Rose before.rack_faults now.rack_faults ⊎ Rose before.sink_faults now.sink_faults
-rose_behind before mid now none (inl rack) = inl (subst (λ (n : ℕ). Rose n now.rack_faults) none.rack rack)
-rose_behind before mid now none (inr sink) = inr (subst (λ (n : ℕ). Rose n now.sink_faults) none.sink sink)
+-- a fault after what was written whole
+pub rose_after : (before mid now : Outside) → NoFault before mid
+    → WriteFailed mid now
+    → WriteFailed before now
+rose_after before mid now none (inl rack) = inl (subst (λ (n : ℕ). Rose n now.rack.faults) none.rack rack)
+rose_after before mid now none (inr sink) = inr (subst (λ (n : ℕ). Rose n now.sink.faults) none.sink sink)
 
 cut_whole : (acts : List Act) → Cut acts (files_of acts) (text_of acts)
 cut_whole [] = (refl, refl)
@@ -95,4 +103,4 @@ cut_whole (line bytes ∷ acts) = inr (inr (text_of acts, refl, cut_whole acts))
 
 -- acts that were made whole were made as far as any run comes
 pub wrote_cut : (acts : List Act) (before now : Outside) → Wrote acts before now → WroteCut acts before now
-wrote_cut acts before now whole = (files_of acts, text_of acts, cut_whole acts, whole)
+wrote_cut acts before now whole = (files_of acts, text_of acts, cut_whole acts, whole.added)

@@ -14,14 +14,14 @@ takes counts left = list_all (int_le (pos 0)) counts && (sum_by nat_abs counts =
 first_taken : (count : ℤ) (counts rest : List ℤ) → takes_all (count ∷ counts) rest ≡ true → takes_all counts (drop (nat_abs count) rest) ≡ true
 first_taken count counts rest h = grind (arith, nat_tests, common_steps, length-drop)
 
--- the counts behind the next one take what it leaves
+-- the counts after the next one take what it leaves
 pub takes_next : (counts : List ℤ) (i : ℕ) (count : ℤ) (rest : List ℤ) → i < length counts → count ≡ get_or counts i (pos 0)
     → takes_all (drop i counts) rest ≡ true → takes_all (drop (i + 1) counts) (drop (nat_abs count) rest) ≡ true
 takes_next counts i count rest lt is h =
     first_taken count (drop (i + 1) counts) rest
     (ap (λ (n : ℤ). takes_all (n ∷ drop (i + 1) counts) rest) is ∙ sym (at_drop_more (λ cs. takes_all cs rest) counts i (pos 0) lt) ∙ h)
 
--- the next face, and those behind it
+-- the next face, and those after it
 pub faces_next : (counts : List ℤ) (i : ℕ) (count : ℤ) (rest : List ℤ) → i < length counts → count ≡ get_or counts i (pos 0)
     → faces (drop i counts) rest ≡ take (nat_abs count) rest ∷ faces (drop (i + 1) counts) (drop (nat_abs count) rest)
 faces_next counts i count rest lt is =

@@ -30,15 +30,15 @@ grows None bytes buffer place n is le front next = front
 grows (Some file) bytes buffer place n is le front next = front_grows bytes file buffer n le front (subst (λ (p : ℕ). ReadsNext file p n buffer) is next)
 
 -- the bytes so far, where the files are told, and a piece more
-pub all_grow : (files told : Option FileMap) (open_ opened : Option (List ℕ)) (bytes more buffer behind : List ℕ) (place n : ℕ)
-    → files ≡ told → open_ ≡ opened → place ≡ length bytes → n ≤ length buffer → more ≡ bytes ++ take n (buffer ++ behind)
+pub all_grow : (files told : Option FileMap) (open_ opened : Option (List ℕ)) (bytes more buffer after : List ℕ) (place n : ℕ)
+    → files ≡ told → open_ ≡ opened → place ≡ length bytes → n ≤ length buffer → more ≡ bytes ++ take n (buffer ++ after)
     → IfSome told (λ map. IsSomeAnd (open_bytes map opened) (IsFront bytes))
     → IfSome files (λ map. IsSomeAnd (open_bytes map open_) (λ file. ReadsNext file place n buffer))
     → IfSome told (λ map. IsSomeAnd (open_bytes map opened) (IsFront more))
-all_grow files None open_ opened bytes more buffer behind place n same_files same_open is le all front next = tt
-all_grow files (Some map) open_ opened bytes more buffer behind place n same_files same_open is le all front next =
+all_grow files None open_ opened bytes more buffer after place n same_files same_open is le all front next = tt
+all_grow files (Some map) open_ opened bytes more buffer after place n same_files same_open is le all front next =
     let piece : IsSomeAnd (open_bytes map opened) (λ file. ReadsNext file place n buffer) =
     subst (λ (o : Option (List ℕ)). IsSomeAnd (open_bytes map o) (λ file. ReadsNext file place n buffer)) same_open
     (subst (λ (f : Option FileMap). IfSome f (λ m. IsSomeAnd (open_bytes m open_) (λ file. ReadsNext file place n buffer))) same_files next) in
-    let whole : bytes ++ take n buffer ≡ more = ap (λ (b : List ℕ). bytes ++ b) (sym (take-append-le n buffer behind le)) ∙ sym all in
+    let whole : bytes ++ take n buffer ≡ more = ap (λ (b : List ℕ). bytes ++ b) (sym (take-append-le n buffer after le)) ∙ sym all in
     subst (λ (b : List ℕ). IsSomeAnd (open_bytes map opened) (IsFront b)) whole (grows (open_bytes map opened) bytes buffer place n is le front piece)

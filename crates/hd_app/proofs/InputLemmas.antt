@@ -13,41 +13,42 @@ use Rattle.hd_layer.specs.Limits.{limit_of}
 use Rattle.hd_layer.specs.WellFormed.{is_layer}
 use Rattle.hd_io.specs.Causes.{Rose}
 use Rattle.hd_io.specs.Files.{FileMap}
-use Rattle.hd_session.specs.States.{opened}
+use Rattle.hd_session.specs.States.{opening_state}
 use Rattle.hd_app.specs.declared.status.Status.{Status}
 use Rattle.hd_app.specs.declared.status.Status.TheVariants.{Done, Usage, Layer, Script, Limit, ReadFault, WriteFault, NoMemory}
 use Rattle.hd_app.specs.declared.status.Place.{Place}
 use Rattle.hd_app.specs.declared.status.Place.TheVariants.{Words, File, Line}
 use Rattle.hd_app.specs.Commands.{draw, step, HasFewLayers}
-use Rattle.hd_app.specs.Outcomes.{outcome_of, drawn_if_read, layer_in, layers_in, with_layer, script_in, stepped, stepped_if_read, byte_limit}
-use Rattle.hd_app.specs.Refusing.{refused}
-use Rattle.hd_app.specs.Runs.{ShelfState, TookTooMuch, PassesLimit, SpellLayers, IsReached}
-use Rattle.hd_app.specs.Refusals.{FailedAt, RefusesLayer, RefusesLayers, RefusesScript, RefusesFiles}
+use Rattle.hd_app.specs.Outcomes.{outcome_of, draw_if_read, layer_in, layers_in, with_layer, script_in, step_outcome, step_if_read, byte_limit}
+use Rattle.hd_app.specs.Refusing.{refusal_outcome}
+use Rattle.hd_io.specs.Shelf.{ShelfState}
+use Rattle.hd_app.specs.Runs.{TookTooMuch, PassesLimit, SpellLayers, IsReached}
+use Rattle.hd_app.specs.inner.Refusals.{FailedAt, RefusesLayer, RefusesLayers, RefusesScript, RefusesFiles}
 use Rattle.hd_app.specs.Scripts.{lines_of, outcome_of_lines}
 
--- layers that were read, and what is to be read behind them
-abbrev pub behind : List LayerSpec → Result (List LayerSpec) Status → Result (List LayerSpec) Status
-behind layers (Ok more) = Ok (layers ++ more)
-behind layers (Err status) = Err status
+-- layers that were read, and what is to be read after them
+abbrev pub after : List LayerSpec → Result (List LayerSpec) Status → Result (List LayerSpec) Status
+after layers (Ok more) = Ok (layers ++ more)
+after layers (Err status) = Err status
 
-pub behind_none : (read : Result (List LayerSpec) Status) → read ≡ behind [] read
-behind_none (Ok more) = refl
-behind_none (Err status) = refl
+pub after_none : (read : Result (List LayerSpec) Status) → read ≡ after [] read
+after_none (Ok more) = refl
+after_none (Err status) = refl
 
-behind_one_more : (layers : List LayerSpec) (layer : LayerSpec) (rest : Result (List LayerSpec) Status)
-    → behind layers (with_layer (Ok layer) rest) ≡ behind (layers ++ layer ∷ []) rest
-behind_one_more layers layer (Ok more) = ap (λ (all : List LayerSpec). Ok all) (sym (append_assoc layers (layer ∷ []) more))
-behind_one_more layers layer (Err status) = refl
+after_one_more : (layers : List LayerSpec) (layer : LayerSpec) (rest : Result (List LayerSpec) Status)
+    → after layers (with_layer (Ok layer) rest) ≡ after (layers ++ layer ∷ []) rest
+after_one_more layers layer (Ok more) = ap (λ (all : List LayerSpec). Ok all) (sym (append_assoc layers (layer ∷ []) more))
+after_one_more layers layer (Err status) = refl
 
 -- one more layer was read
 pub one_more : (files : FileMap) (names : List (List ℕ)) (i : ℕ) (name : List ℕ) (layers : List LayerSpec) (layer : LayerSpec) → i < length names → name ≡ get_or names i []
-    → layer_in files name ≡ Ok layer → layers_in files names ≡ behind layers (layers_in files (drop i names))
-    → layers_in files names ≡ behind (layers ++ layer ∷ []) (layers_in files (drop (suc i) names))
+    → layer_in files name ≡ Ok layer → layers_in files names ≡ after layers (layers_in files (drop i names))
+    → layers_in files names ≡ after (layers ++ layer ∷ []) (layers_in files (drop (suc i) names))
 one_more files names i name layers layer lt is read so_far =
     let next : drop i names ≡ name ∷ drop (suc i) names = drop-cons names i [] lt ∙ ap (λ (n : List ℕ). n ∷ drop (suc i) names) (sym is) in
-    so_far ∙ ap (λ (ns : List (List ℕ)). behind layers (layers_in files ns)) next
-    ∙ ap (λ (r : Result LayerSpec Status). behind layers (with_layer r (layers_in files (drop (suc i) names)))) read
-    ∙ behind_one_more layers layer (layers_in files (drop (suc i) names))
+    so_far ∙ ap (λ (ns : List (List ℕ)). after layers (layers_in files ns)) next
+    ∙ ap (λ (r : Result LayerSpec Status). after layers (with_layer r (layers_in files (drop (suc i) names)))) read
+    ∙ after_one_more layers layer (layers_in files (drop (suc i) names))
 
 spells : (files : FileMap) (name : List ℕ) (layer : LayerSpec) → layer_in files name ≡ Ok layer → IsOk (layer_in files name)
 spells files name layer read = ap (λ (r : Result LayerSpec Status). is_ok r) read
@@ -79,8 +80,8 @@ first_refused : (files : FileMap) (names : List (List ℕ)) (status : Status) (l
 first_refused files names status (Ok layer) ok are = ap (with_layer (Ok layer)) are
 first_refused files names status (Err other) ok are = cc
 
-slice_get_behind : (first : List ℕ) (names : List (List ℕ)) (place : ℕ) (name : List ℕ) → slice_get (first ∷ names) (suc place) ≡ Some name → slice_get names place ≡ Some name
-slice_get_behind first names place name named =
+slice_get_after : (first : List ℕ) (names : List (List ℕ)) (place : ℕ) (name : List ℕ) → slice_get (first ∷ names) (suc place) ≡ Some name → slice_get names place ≡ Some name
+slice_get_after first names place name named =
     let lt = slice_get_within (first ∷ names) (suc place) name named in
     slice_get-get_or names place [] (omega (arith, lt)) ∙ ap (λ (n : List ℕ). Some n) (get_or_from_slice_get (first ∷ names) (suc place) name [] named)
 
@@ -94,7 +95,7 @@ refused_at files (first ∷ names) zero name status named spelled is =
 refused_at files (first ∷ names) (suc place) name status named spelled is =
     let P : List ℕ → Type 0 = λ n. IsOk (layer_in files n) in
     first_refused files names status (layer_in files first) (All-head P first (take place names) spelled)
-    (refused_at files names place name status (slice_get_behind first names place name named) (All-rest P first (take place names) (first ∷ take place names) refl spelled) is)
+    (refused_at files names place name status (slice_get_after first names place name named) (All-rest P first (take place names) (first ∷ take place names) refl spelled) is)
 
 -- the name of an item, among the names of all
 pub named_at : {A : Type 0} (f : A → List ℕ) (items : List A) (i : ℕ) (x : A) (name : List ℕ) → i < length items → x ≡ get_or items i x → name ≡ f x
@@ -104,13 +105,13 @@ named_at f items i x name lt at is = (omega (arith, lt, length-map items f), is 
 -- one more layer was read, where the files are told
 pub told_one_more : (told between : Option FileMap) (names : List (List ℕ)) (i : ℕ) (name : List ℕ) (layers : List LayerSpec) (layer : LayerSpec)
     → between ≡ told → (i < length names) × (name ≡ get_or names i []) → IfSome between (λ files. layer_in files name ≡ Ok layer)
-    → IfSome told (λ files. layers_in files names ≡ behind layers (layers_in files (drop i names)))
-    → IfSome told (λ files. layers_in files names ≡ behind (layers ++ layer ∷ []) (layers_in files (drop (i + 1) names)))
+    → IfSome told (λ files. layers_in files names ≡ after layers (layers_in files (drop i names)))
+    → IfSome told (λ files. layers_in files names ≡ after (layers ++ layer ∷ []) (layers_in files (drop (i + 1) names)))
 told_one_more None between names i name layers layer same at read so_far = tt
 told_one_more (Some files) between names i name layers layer same at read so_far =
     let now : layer_in files name ≡ Ok layer = subst (λ (f : Option FileMap). IfSome f (λ m. layer_in m name ≡ Ok layer)) same read in
     let next : suc i ≡ i + 1 = omega arith in
-    subst (λ (k : ℕ). layers_in files names ≡ behind (layers ++ layer ∷ []) (layers_in files (drop k names))) next
+    subst (λ (k : ℕ). layers_in files names ≡ after (layers ++ layer ∷ []) (layers_in files (drop k names))) next
     (one_more files names i name layers layer at.0 at.1 now so_far)
 
 pub told_one_more_spells : (told between : Option FileMap) (names : List (List ℕ)) (i : ℕ) (name : List ℕ) (layer : LayerSpec)
@@ -190,9 +191,9 @@ named_first : (name file : List ℕ) → file ≡ name → Contains (name ∷ []
 named_first name file is = is_named (name ∷ []) 0 name file refl is
 
 told_refused : (name out : List ℕ) (refusal : Status) (told : Option FileMap) → IfSome told (λ files. layer_in files name ≡ Err refusal)
-    → IfSome told (λ files. outcome_of files (Some (draw name out)) ≡ refused refusal)
+    → IfSome told (λ files. outcome_of files (Some (draw name out)) ≡ refusal_outcome refusal)
 told_refused name out refusal None read = tt
-told_refused name out refusal (Some files) read = ap (drawn_if_read out) read
+told_refused name out refusal (Some files) read = ap (draw_if_read out) read
 
 -- a command of one layer
 pub layer_refuses : (name out : List ℕ) (before now : ShelfState) (status : Status) → RefusesLayer name before now status → RefusesFiles (draw name out) before now status
@@ -224,17 +225,17 @@ few_of : (layers : List (List ℕ)) → length layers ≤ 8 → nat_lt (limit_of
 few_of layers few = grind (arith, nat_tests)
 
 step_told : (files : FileMap) (layers : List (List ℕ)) (script : List ℕ) → length layers ≤ 8
-    → stepped files layers script ≡ stepped_if_read script (layers_in files layers) (script_in files script)
+    → step_outcome files layers script ≡ step_if_read script (layers_in files layers) (script_in files script)
 step_told files layers script few = rw (few_of layers few) refl
 
 -- a layer of several was refused
 told_layers : (layers : List (List ℕ)) (script : List ℕ) (place : ℕ) (name : List ℕ) (refusal : Status) (told : Option FileMap) → length layers ≤ 8
     → slice_get layers place ≡ Some name → IfSome told (λ files. SpellLayers files (take place layers)) → IfSome told (λ files. layer_in files name ≡ Err refusal)
-    → IfSome told (λ files. outcome_of files (Some (step layers script)) ≡ refused refusal)
+    → IfSome told (λ files. outcome_of files (Some (step layers script)) ≡ refusal_outcome refusal)
 told_layers layers script place name refusal None few named spelled is = tt
 told_layers layers script place name refusal (Some files) few named spelled is =
     step_told files layers script few
-    ∙ ap (λ (r : Result (List LayerSpec) Status). stepped_if_read script r (script_in files script)) (refused_at files layers place name refusal named spelled is)
+    ∙ ap (λ (r : Result (List LayerSpec) Status). step_if_read script r (script_in files script)) (refused_at files layers place name refusal named spelled is)
 
 told_before : (layers : List (List ℕ)) (script : List ℕ) (place : ℕ) (told : Option FileMap) → place ≤ length layers
     → IfSome told (λ files. SpellLayers files (take place layers)) → IfSome told (λ files. SpellLayers files (take place (layers ++ script ∷ [])))
@@ -292,7 +293,7 @@ layers_refuse layers script before now status few (inr memory) = subst (λ (s : 
 
 -- more layers than eight
 told_many : (layers : List (List ℕ)) (script : List ℕ) (told : Option FileMap) → 8 < length layers
-    → IfSome told (λ files. outcome_of files (Some (step layers script)) ≡ refused (Limit Words Layers (limit_of Layers)))
+    → IfSome told (λ files. outcome_of files (Some (step layers script)) ≡ refusal_outcome (Limit Words Layers (limit_of Layers)))
 told_many layers script None many = tt
 told_many layers script (Some files) many =
     let yes : nat_lt (limit_of Layers) (length layers) ≡ true = grind (arith, nat_tests) in
@@ -307,12 +308,12 @@ many_refuse layers script shelf many = record {
 
 told_script : (layers : List (List ℕ)) (script : List ℕ) (read : List LayerSpec) (refusal : Status) (told : Option FileMap) → length layers ≤ 8
     → IfSome told (λ files. layers_in files layers ≡ Ok read) → IfSome told (λ files. script_in files script ≡ Err refusal)
-    → IfSome told (λ files. outcome_of files (Some (step layers script)) ≡ refused refusal)
+    → IfSome told (λ files. outcome_of files (Some (step layers script)) ≡ refusal_outcome refusal)
 told_script layers script read refusal None few are is = tt
 told_script layers script read refusal (Some files) few are is =
     step_told files layers script few
-    ∙ ap (λ (r : Result (List LayerSpec) Status). stepped_if_read script r (script_in files script)) are
-    ∙ ap (stepped_if_read script (Ok read)) is
+    ∙ ap (λ (r : Result (List LayerSpec) Status). step_if_read script r (script_in files script)) are
+    ∙ ap (step_if_read script (Ok read)) is
 
 all_before : (layers : List (List ℕ)) (script : List ℕ) (read : List LayerSpec) (told : Option FileMap) → IfSome told (λ files. layers_in files layers ≡ Ok read)
     → IfSome told (λ files. SpellLayers files (take (length layers) (layers ++ script ∷ [])))
@@ -330,7 +331,7 @@ script_limit : (layers : List (List ℕ)) (script : List ℕ) (now : ShelfState)
 script_limit layers script now place which count few is bytes limit taken =
     subst (λ (p : Place). PassesLimit (step layers script) now p which count) (sym is) (few, Contains-push layers script, bytes, limit, taken)
 
--- the script behind layers that were read: the shelf as it was between them counts as before
+-- the script after layers that were read: the shelf as it was between them counts as before
 pub script_refuses : (layers : List (List ℕ)) (script : List ℕ) (read : List LayerSpec) (before between now : ShelfState) (status : Status) → length layers ≤ 8
     → IfSome before.files (λ files. layers_in files layers ≡ Ok read) → between.files ≡ before.files → between.faults ≡ before.faults
     → RefusesScript script between now status → RefusesFiles (step layers script) before now status
@@ -363,10 +364,10 @@ script_refuses layers script read before between now WriteFault few are files fa
 -- all was read
 pub all_told : (layers : List (List ℕ)) (script : List ℕ) (read : List LayerSpec) (bytes : List ℕ) (told between : Option FileMap) → length layers ≤ 8
     → IfSome told (λ files. layers_in files layers ≡ Ok read) → between ≡ told → IfSome between (λ files. script_in files script ≡ Ok bytes)
-    → IfSome told (λ files. stepped files layers script ≡ outcome_of_lines script 1 (opened read) (lines_of bytes))
+    → IfSome told (λ files. step_outcome files layers script ≡ outcome_of_lines script 1 (opening_state read) (lines_of bytes))
 all_told layers script read bytes None between few are same is = tt
 all_told layers script read bytes (Some files) between few are same is =
     let script_is : script_in files script ≡ Ok bytes = subst (λ (f : Option FileMap). IfSome f (λ m. script_in m script ≡ Ok bytes)) same is in
     step_told files layers script few
-    ∙ ap (λ (r : Result (List LayerSpec) Status). stepped_if_read script r (script_in files script)) are
-    ∙ ap (stepped_if_read script (Ok read)) script_is
+    ∙ ap (λ (r : Result (List LayerSpec) Status). step_if_read script r (script_in files script)) are
+    ∙ ap (step_if_read script (Ok read)) script_is

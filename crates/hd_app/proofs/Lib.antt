@@ -3,7 +3,6 @@ pub mod Counting
 pub mod CutLemmas
 pub mod EndLemmas
 pub mod Fanning
-pub mod FrameLemmas
 pub mod Fronts
 pub mod InputLemmas
 pub mod LineLemmas
@@ -11,6 +10,5 @@ pub mod Nearness
 pub mod RunLemmas
 pub mod ScriptLemmas
 pub mod TextLemmas
-pub mod TileLemmas
 pub mod TopLemmas
 pub mod Wholeness

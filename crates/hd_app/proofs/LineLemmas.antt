@@ -1,8 +1,9 @@
 -- How the lines of a script end it.
-use Rattle.std.proofs.Common.{◌≡◌, ◌⊎◌, ℕ, suc, ◌+◌, ◌<◌, ◌≤◌, ◌∙◌, length, arith, List, ◌∷◌, Option, Some, None, Ok, Err, refl, sym, ap, subst, inl, inr}
+use Rattle.std.proofs.Common.{◌≡◌, ◌⊎◌, ℕ, suc, ◌+◌, ◌<◌, ◌≤◌, length, arith, List, ◌∷◌, Option, Some, None, Ok, Err, refl, sym, ap, subst, inl, inr}
 use Rattle.std.specs.Prelude.{IfSome, Result}
-use Rattle.hd_io.specs.Acts.{Act, Outside, outside, Wrote, WroteCut, NoFault}
-use Rattle.hd_io.specs.Files.{FileList}
+use Rattle.hd_io.specs.Acts.{Act, Outside, Wrote, WroteCut, NoFault}
+use Rattle.hd_io.specs.Rack.{RackState}
+use Rattle.hd_io.specs.Sink.{SinkState}
 use Rattle.hd_io.proofs.Cuts.{none_written}
 use Rattle.hd_script.specs.Commands.{reads_line}
 use Rattle.hd_script.specs.declared.command.Command.{Command}
@@ -16,61 +17,61 @@ use Rattle.hd_session.specs.States.{State}
 use Rattle.hd_session.specs.Steps as session
 use Rattle.hd_app.specs.declared.status.Status.{Status}
 use Rattle.hd_app.specs.declared.status.Status.TheVariants.{Done, Usage, Layer, Script, Limit, ReadFault, WriteFault, NoMemory}
-use Rattle.hd_app.specs.Stages.{Ends}
-use Rattle.hd_app.specs.Endings.{IsBrokenOff}
-use Rattle.hd_app.specs.Lines.{RefusesLine, lines_left}
-use Rattle.hd_app.specs.Refusing.{Outcome, refused}
-use Rattle.hd_app.specs.Scripts.{LineStep, line_refusal, command_refusal, line_step, step_of_line, preceded, continued, ended, lines_of, outcome_of_lines}
-use Rattle.hd_app.proofs.ActLemmas.{same_faults, wrote_joined, cut_joined, wrote_cut_of_more, wrote_cut_of_none, faults_joined, rose_behind}
+use Rattle.hd_app.specs.inner.Stages.{Ends}
+use Rattle.hd_app.specs.Endings.{IsInterruption}
+use Rattle.hd_app.specs.inner.Lines.{RefusesLine, lines_left}
+use Rattle.hd_app.specs.Refusing.{Outcome, refusal_outcome}
+use Rattle.hd_app.specs.Scripts.{LineStep, line_refusal, command_refusal, line_step, step_of_line, after_acts, continue_from, end_of_script, lines_of, outcome_of_lines}
+use Rattle.hd_app.proofs.ActLemmas.{same_faults, wrote_joined, cut_joined, wrote_cut_of_more, wrote_cut_of_none, faults_joined, rose_after}
 
--- an outcome behind acts that were made whole
-ends_behind : (done : List Act) (outcome : Outcome) (before mid now : Outside) (status : Status) → Wrote done before mid → NoFault before mid
-    → Ends outcome mid now status → Ends (preceded done outcome) before now status
-ends_behind done outcome before mid now status wrote none (inl whole) = inl (record {
+-- an outcome after acts that were made whole
+ends_after : (done : List Act) (outcome : Outcome) (before mid now : Outside) (status : Status) → Wrote done before mid → NoFault before mid
+    → Ends outcome mid now status → Ends (after_acts done outcome) before now status
+ends_after done outcome before mid now status wrote none (inl whole) = inl (record {
   ending = whole.ending;
   written = wrote_joined done outcome.acts before mid now wrote whole.written;
   faults = faults_joined before mid now none whole.faults;
 })
-ends_behind done outcome before mid now status wrote none (inr (inl off)) = inr (inl (record {
+ends_after done outcome before mid now status wrote none (inr (inl off)) = inr (inl (record {
   ending = off.ending;
   written = cut_joined done outcome.acts before mid now wrote off.written;
-  faults = rose_behind before mid now none off.faults;
+  faults = rose_after before mid now none off.faults;
 }))
-ends_behind done outcome before mid now status wrote none (inr (inr out)) = inr (inr (record {
+ends_after done outcome before mid now status wrote none (inr (inr out)) = inr (inr (record {
   ending = out.ending;
   written = cut_joined done outcome.acts before mid now wrote out.written;
   faults = faults_joined before mid now none out.faults;
 }))
 
--- a line that was done, and what ends behind it
+-- a line that was done, and what ends after it
 pub line_done : (further : State → Outcome) (step : LineStep) (after : State) (before mid now : Outside) (status : Status)
-    → Does step after before mid → Ends (further after) mid now status → Ends (continued further step) before now status
+    → Does step after before mid → Ends (further after) mid now status → Ends (continue_from further step) before now status
 line_done further step after before mid now status does ends =
-    subst (λ (s : LineStep). Ends (continued further s) before now status) (sym does.is)
-    (ends_behind does.acts (further after) before mid now status does.written does.faults ends)
+    subst (λ (s : LineStep). Ends (continue_from further s) before now status) (sym does.is)
+    (ends_after does.acts (further after) before mid now status does.written does.faults ends)
 
 -- what a line's acts can have left, they can have left of the whole script
-cut_of_line : (further : State → Outcome) (step : LineStep) (before now : Outside) → WroteCut (acts_of step) before now → WroteCut (continued further step).acts before now
+cut_of_line : (further : State → Outcome) (step : LineStep) (before now : Outside) → WroteCut (acts_of step) before now → WroteCut (continue_from further step).acts before now
 cut_of_line further (Ok done) before now cut = wrote_cut_of_more done.1 (further done.0).acts before now cut
-cut_of_line further (Err status) before now cut = wrote_cut_of_none (refused status).acts before now cut
+cut_of_line further (Err status) before now cut = wrote_cut_of_none (refusal_outcome status).acts before now cut
 
 told : (further : State → Outcome) (step : LineStep) (before mid now : Outside) (why status : Status) → step ≡ Err why → mid ≡ before
-    → Ends (refused why) mid now status → Ends (continued further step) before now status
+    → Ends (refusal_outcome why) mid now status → Ends (continue_from further step) before now status
 told further step before mid now why status is same ends =
-    subst (λ (s : LineStep). Ends (continued further s) before now status) (sym is)
-    (subst (λ (o : Outside). Ends (refused why) o now status) same ends)
+    subst (λ (s : LineStep). Ends (continue_from further s) before now status) (sym is)
+    (subst (λ (o : Outside). Ends (refusal_outcome why) o now status) same ends)
 
 -- a line that was refused, and the telling of it
 pub line_refused : (further : State → Outcome) (step : LineStep) (before mid now : Outside) (why status : Status)
-    → RefusesLine step before mid why → Ends (refused why) mid now status → (IsBrokenOff why → (status ≡ why) × (now ≡ mid))
-    → Ends (continued further step) before now status
+    → RefusesLine step before mid why → Ends (refusal_outcome why) mid now status → (IsInterruption why → (status ≡ why) × (now ≡ mid))
+    → Ends (continue_from further step) before now status
 line_refused further step before mid now (Script number cause) status refuses ends broken = told further step before mid now (Script number cause) status refuses.0 refuses.1 ends
 line_refused further step before mid now (Limit place which count) status refuses ends broken = told further step before mid now (Limit place which count) status refuses.0 refuses.1 ends
 line_refused further step before mid now WriteFault status refuses ends broken =
-    subst (λ (o : Outside). Ends (continued further step) before o status) (sym (broken tt).1)
+    subst (λ (o : Outside). Ends (continue_from further step) before o status) (sym (broken tt).1)
     (inr (inl (record { ending = (broken tt).0; written = cut_of_line further step before mid refuses.0; faults = refuses.1 })))
 line_refused further step before mid now NoMemory status refuses ends broken =
-    subst (λ (o : Outside). Ends (continued further step) before o status) (sym (broken tt).1)
+    subst (λ (o : Outside). Ends (continue_from further step) before o status) (sym (broken tt).1)
     (inr (inr (record { ending = (broken tt).0; written = cut_of_line further step before mid refuses.0; faults = refuses.1 })))
 line_refused further step before mid now Done status refuses ends broken = absurd refuses
 line_refused further step before mid now Usage status refuses ends broken = absurd refuses
@@ -130,14 +131,14 @@ done_command name number step after before now does = record {
 }
 
 -- a script whose end was done
-pub end_done : (s after : State) (before now : Outside) → Does (session.finish s) after before now → Ends (ended (session.at_end s)) before now Done
+pub end_done : (s after : State) (before now : Outside) → Does (session.finish s) after before now → Ends (end_of_script (session.at_end s)) before now Done
 end_done s after before now does =
     inl (record { ending = refl; written = subst (λ (acts : List Act). Wrote acts before now) (sym (ap acts_of does.is)) does.written; faults = does.faults })
 
 -- a script whose end was not done
 pub end_undone : (s : State) (why : Refusal) (status : Status) (before now : Outside) → Refuses (session.finish s) before now why
     → (why ≡ refusal.WriteFault → status ≡ WriteFault) → (why ≡ refusal.NoMemory → status ≡ NoMemory)
-    → Ends (ended (session.at_end s)) before now status
+    → Ends (end_of_script (session.at_end s)) before now status
 end_undone s refusal.WriteFault status before now refuses write memory = inr (inl (record { ending = write refl; written = refuses.0; faults = refuses.1 }))
 end_undone s refusal.NoMemory status before now refuses write memory = inr (inr (record { ending = memory refl; written = refuses.0; faults = refuses.1 }))
 end_undone s (refusal.Script cause) status before now refuses write memory =
@@ -158,7 +159,7 @@ abbrev pub room : Option (List ℕ) → ℕ
 room None = 0
 room (Some text) = suc (length text)
 
--- a line that was done leads on to those behind it
+-- a line that was done leads on to those after it
 pub leads_on : (name : List ℕ) (number : ℕ) (s after : State) (text line : List ℕ) (rest : List (List ℕ)) (before mid : Outside)
     → lines_of text ≡ line ∷ rest → Does (line_step name number s (reads_line line)) after before mid
     → LeadsOn (outcome_of_lines name number s (lines_of text)) before (outcome_of_lines name (number + 1) after rest) mid
@@ -169,24 +170,26 @@ leads_on name number s after text line rest before mid cut does now status ends 
 -- a line that was refused ends the script
 pub stops_at : (name : List ℕ) (number : ℕ) (s : State) (text line : List ℕ) (rest : List (List ℕ)) (before mid now : Outside) (why status : Status)
     → lines_of text ≡ line ∷ rest → RefusesLine (line_step name number s (reads_line line)) before mid why
-    → Ends (refused why) mid now status → (IsBrokenOff why → (status ≡ why) × (now ≡ mid))
+    → Ends (refusal_outcome why) mid now status → (IsInterruption why → (status ≡ why) × (now ≡ mid))
     → Ends (outcome_of_lines name number s (lines_of text)) before now status
 stops_at name number s text line rest before mid now why status cut refuses ends broken =
     subst (λ (lines : List (List ℕ)). Ends (outcome_of_lines name number s lines) before now status) (sym cut)
     (line_refused (λ a. outcome_of_lines name (number + 1) a rest) (line_step name number s (reads_line line)) before mid now why status refuses ends broken)
 
+-- a rack and a sink
+abbrev pub outside : RackState → SinkState → Outside
+outside rack sink = record { rack = rack; sink = sink }
+
 -- a sink that is as it was
-pub same_outside : (files : Option FileList) (rack sink sink_now : ℕ) (text text_now : Option (List ℕ)) → text_now ≡ text → sink_now ≡ sink
-    → outside files rack text_now sink_now ≡ outside files rack text sink
-same_outside files rack sink sink_now text text_now e f =
-    ap (λ (t : Option (List ℕ)). outside files rack t sink_now) e ∙ ap (λ (n : ℕ). outside files rack text n) f
+pub same_outside : (rack : RackState) (before now : SinkState) → now ≡ before → outside rack now ≡ outside rack before
+same_outside rack before now same = ap (outside rack) same
 
 -- a script of which a line was refused
 pub script_refused : (name : List ℕ) (number : ℕ) (first s : State) (bytes : List ℕ) (left : Option (List ℕ)) (text line : List ℕ) (rest : List (List ℕ))
     (start before mid now : Outside) (why status : Status)
     → LeadsOn (outcome_of_lines name 1 first (lines_of bytes)) start (outcome_of_lines name number s (lines_left left)) before
     → left ≡ Some text → lines_of text ≡ line ∷ rest → RefusesLine (line_step name number s (reads_line line)) before mid why
-    → Ends (refused why) mid now status → (IsBrokenOff why → (status ≡ why) × (now ≡ mid))
+    → Ends (refusal_outcome why) mid now status → (IsInterruption why → (status ≡ why) × (now ≡ mid))
     → Ends (outcome_of_lines name 1 first (lines_of bytes)) start now status
 script_refused name number first s bytes left text line rest start before mid now why status leads is cut refuses ends broken =
     leads now status (
@@ -207,21 +210,21 @@ script_leads name number first s after bytes left text line rest start before mi
 -- a script that was read to its end
 pub script_ended : (name : List ℕ) (number : ℕ) (first s : State) (bytes : List ℕ) (left : Option (List ℕ)) (start before now : Outside) (status : Status)
     → LeadsOn (outcome_of_lines name 1 first (lines_of bytes)) start (outcome_of_lines name number s (lines_left left)) before
-    → left ≡ None → Ends (ended (session.at_end s)) before now status → Ends (outcome_of_lines name 1 first (lines_of bytes)) start now status
+    → left ≡ None → Ends (end_of_script (session.at_end s)) before now status → Ends (outcome_of_lines name 1 first (lines_of bytes)) start now status
 script_ended name number first s bytes left start before now status leads is ends =
     leads now status (subst (λ (l : Option (List ℕ)). Ends (outcome_of_lines name number s (lines_left l)) before now status) (sym is) ends)
 
-room_left : (number most : ℕ) (behind : Option (List ℕ)) (text : List ℕ) → IfSome behind (λ b. length b < length text) → number + suc (length text) ≤ most
-    → number + 1 + room behind ≤ most
+room_left : (number most : ℕ) (later : Option (List ℕ)) (text : List ℕ) → IfSome later (λ b. length b < length text) → number + suc (length text) ≤ most
+    → number + 1 + room later ≤ most
 room_left number most None text shorter within = omega (arith, within)
 room_left number most (Some b) text shorter within = omega (arith, shorter, within)
 
 -- each line has a number for itself
-pub counted : (number most : ℕ) (left behind : Option (List ℕ)) (text : List ℕ) → left ≡ Some text → IfSome behind (λ b. length b < length text) → number + room left ≤ most
-    → number + 1 + room behind ≤ most
-counted number most left behind text is shorter within =
-    room_left number most behind text shorter (subst (λ (l : Option (List ℕ)). number + room l ≤ most) is within)
+pub counted : (number most : ℕ) (left later : Option (List ℕ)) (text : List ℕ) → left ≡ Some text → IfSome later (λ b. length b < length text) → number + room left ≤ most
+    → number + 1 + room later ≤ most
+counted number most left later text is shorter within =
+    room_left number most later text shorter (subst (λ (l : Option (List ℕ)). number + room l ≤ most) is within)
 
-pub shorter_room : (left behind : Option (List ℕ)) (text : List ℕ) → left ≡ Some text → IfSome behind (λ b. length b < length text) → room behind < room left
+pub shorter_room : (left later : Option (List ℕ)) (text : List ℕ) → left ≡ Some text → IfSome later (λ b. length b < length text) → room later < room left
 shorter_room left None text is shorter = subst (λ (l : Option (List ℕ)). 0 < room l) (sym is) (omega arith)
 shorter_room left (Some b) text is shorter = subst (λ (l : Option (List ℕ)). suc (length b) < room l) (sym is) (omega (arith, shorter))

@@ -1,20 +1,20 @@
 -- How the parts of a run make the run.
-use Rattle.std.proofs.Common.{◌≡◌, ◌⊎◌, ℕ, ◌∙◌, List, [], ◌∷◌, Option, Some, None, Ok, refl, sym, ap, subst, inl, inr}
+use Rattle.std.proofs.Common.{◌≡◌, ℕ, ◌∙◌, List, [], ◌∷◌, Option, Some, None, Ok, refl, sym, ap, subst, inl, inr}
 use Rattle.std.proofs.Math.Seq.{take-nil}
 use Rattle.std.specs.Prelude.{IfSome}
 use Rattle.hd_layer.specs.declared.spec.LayerSpec.{LayerSpec}
-use Rattle.hd_io.specs.Causes.{Rose}
 use Rattle.hd_io.specs.Files.{FileList, FileMap}
 use Rattle.hd_app.specs.declared.status.Status.{Status}
 use Rattle.hd_app.specs.declared.status.Status.TheVariants.{Done, Usage, Layer, Script, Limit, ReadFault, WriteFault, NoMemory}
-use Rattle.hd_io.specs.Acts.{Act, line, Cut, Outside, Adds, WroteCut}
+use Rattle.hd_io.specs.Acts.{Act, line, Cut, Outside, Adds, WroteCut, WriteFailed}
 use Rattle.hd_app.specs.Commands.{Program, draw}
-use Rattle.hd_app.specs.Stages.{Ends, Runs}
+use Rattle.hd_app.specs.inner.Stages.{Ends, Runs}
 use Rattle.hd_app.specs.Endings.{IsReadFault}
-use Rattle.hd_app.specs.Outcomes.{outcome_of, drawn, drawn_if_read, layer_in}
-use Rattle.hd_app.specs.Refusing.{Outcome, refused}
-use Rattle.hd_app.specs.Runs.{ShelfState, IsAnswerTo}
-use Rattle.hd_app.specs.Refusals.{RefusesFiles}
+use Rattle.hd_app.specs.Outcomes.{outcome_of, draw_outcome, draw_if_read, layer_in}
+use Rattle.hd_app.specs.Refusing.{Outcome, refusal_outcome}
+use Rattle.hd_io.specs.Shelf.{ShelfState}
+use Rattle.hd_app.specs.Runs.{IsAnswerTo}
+use Rattle.hd_app.specs.inner.Refusals.{RefusesFiles}
 use Rattle.hd_io.proofs.Cuts.{cut_nothing}
 use Rattle.hd_app.proofs.InputLemmas.{draws_one}
 
@@ -32,9 +32,9 @@ of_nothing acts before now cut =
     ([], [], cut_nothing acts, subst B none.1 (subst A none.0 cut.3))
 
 -- a run that has no memory to refuse or to draw ends in any outcome's way
-pub for_want_of_memory : (due : Outcome) (before now : Outside) (status : Status) → Ends (refused NoMemory) before now status → Ends due before now status
+pub for_want_of_memory : (due : Outcome) (before now : Outside) (status : Status) → Ends (refusal_outcome NoMemory) before now status → Ends due before now status
 for_want_of_memory due before now status (inl whole) =
-    inr (inr (record { ending = whole.ending; written = ([], [], cut_nothing due.acts, whole.written); faults = whole.faults }))
+    inr (inr (record { ending = whole.ending; written = ([], [], cut_nothing due.acts, whole.written.added); faults = whole.faults }))
 for_want_of_memory due before now status (inr (inl off)) =
     inr (inl (record { ending = off.ending; written = of_nothing due.acts before now off.written; faults = off.faults }))
 for_want_of_memory due before now status (inr (inr out)) =
@@ -50,37 +50,37 @@ unfolding due_of
 told_due program None other = tt
 told_due program (Some files) other = refl
 
--- what holds of the outcome's own ending and of those of a run that is broken off holds of the status
-ended : (P : Status → Type 0) (outcome : Outcome) (before now : Outside) (status : Status) → P outcome.ending → P WriteFault → P NoMemory → Ends outcome before now status → P status
-ended P outcome before now status own fault memory (inl whole) = subst P (sym whole.ending) own
-ended P outcome before now status own fault memory (inr (inl off)) = subst P (sym off.ending) fault
-ended P outcome before now status own fault memory (inr (inr out)) = subst P (sym out.ending) memory
+-- what holds of the outcome's own ending and of those of an interrupted run holds of the status
+at_ends : (P : Status → Type 0) (outcome : Outcome) (before now : Outside) (status : Status) → P outcome.ending → P WriteFault → P NoMemory → Ends outcome before now status → P status
+at_ends P outcome before now status own fault memory (inl whole) = subst P (sym whole.ending) own
+at_ends P outcome before now status own fault memory (inr (inl off)) = subst P (sym off.ending) fault
+at_ends P outcome before now status own fault memory (inr (inr out)) = subst P (sym out.ending) memory
 
 answers : (program : Option Program) (shelf : ShelfState) (outcome : Outcome) (before now : Outside) (status : Status)
     → IsAnswerTo program shelf outcome.ending → Ends outcome before now status → IsAnswerTo program shelf status
-answers program shelf outcome before now status own ends = ended (IsAnswerTo program shelf) outcome before now status own tt tt ends
+answers program shelf outcome before now status own ends = at_ends (IsAnswerTo program shelf) outcome before now status own tt tt ends
 
 no_read_fault : (outcome : Outcome) (before now : Outside) (status : Status)
     → (IsReadFault outcome.ending → ⊥) → Ends outcome before now status → IsReadFault status → ⊥
-no_read_fault outcome before now status own ends = ended (λ s. IsReadFault s → ⊥) outcome before now status own (λ no. no) (λ no. no) ends
+no_read_fault outcome before now status own ends = at_ends (λ s. IsReadFault s → ⊥) outcome before now status own (λ no. no) (λ no. no) ends
 
 -- a write fault has its cause, where it is not the outcome's own
 pub ends_in_fault : (due : Outcome) (before now : Outside) (status : Status) → (due.ending ≡ WriteFault → ⊥) → Ends due before now status → status ≡ WriteFault
-    → Rose before.rack_faults now.rack_faults ⊎ Rose before.sink_faults now.sink_faults
+    → WriteFailed before now
 ends_in_fault due before now status other (inl whole) is = absurd (other (sym whole.ending ∙ is))
 ends_in_fault due before now status other (inr (inl off)) is = off.faults
 ends_in_fault due before now status other (inr (inr out)) is = let no : NoMemory ≡ WriteFault = sym out.ending ∙ is in cc
 
 -- words that are no command
-pub usage_runs : (shelf : ShelfState) (before now : Outside) (status : Status) → Ends (refused Usage) before now status → Runs None shelf shelf before now status
+pub usage_runs : (shelf : ShelfState) (before now : Outside) (status : Status) → Ends (refusal_outcome Usage) before now status → Runs None shelf shelf before now status
 usage_runs shelf before now status ends = inl (record {
-  due = refused Usage;
+  due = refusal_outcome Usage;
   ends = ends;
-  told = elim shelf.files as (λ told. IfSome told (λ files. outcome_of files None ≡ refused Usage)) [ None ↦ tt | Some files ↦ refl ];
+  told = elim shelf.files as (λ told. IfSome told (λ files. outcome_of files None ≡ refusal_outcome Usage)) [ None ↦ tt | Some files ↦ refl ];
   faults = refl;
-  answer = answers None shelf (refused Usage) before now status refl ends;
-  read = no_read_fault (refused Usage) before now status (λ no. no) ends;
-  write = ends_in_fault (refused Usage) before now status (λ (no : Usage ≡ WriteFault). cc) ends;
+  answer = answers None shelf (refusal_outcome Usage) before now status refl ends;
+  read = no_read_fault (refusal_outcome Usage) before now status (λ no. no) ends;
+  write = ends_in_fault (refusal_outcome Usage) before now status (λ (no : Usage ≡ WriteFault). cc) ends;
 })
 
 -- a run that ended by the outcome of its files
@@ -99,22 +99,22 @@ ran_runs program due shelf_before shelf_now before now status told kept answer r
 })
 
 told_drawn : (name out : List ℕ) (layer : LayerSpec) (told : Option FileMap) → IfSome told (λ files. layer_in files name ≡ Ok layer)
-    → IfSome told (λ files. outcome_of files (Some (draw name out)) ≡ drawn out layer)
+    → IfSome told (λ files. outcome_of files (Some (draw name out)) ≡ draw_outcome out layer)
 told_drawn name out layer None read = tt
-told_drawn name out layer (Some files) read = ap (drawn_if_read out) read
+told_drawn name out layer (Some files) read = ap (draw_if_read out) read
 
 -- a layer that was read is drawn
 pub drawn_runs : (name out : List ℕ) (layer : LayerSpec) (shelf_before shelf_now : ShelfState) (before now : Outside) (status : Status)
     → IfSome shelf_before.files (λ files. layer_in files name ≡ Ok layer) → shelf_now.faults ≡ shelf_before.faults
-    → Ends (drawn out layer) before now status → Runs (Some (draw name out)) shelf_before shelf_now before now status
+    → Ends (draw_outcome out layer) before now status → Runs (Some (draw name out)) shelf_before shelf_now before now status
 drawn_runs name out layer shelf_before shelf_now before now status read kept ends =
-    ran_runs (draw name out) (drawn out layer) shelf_before shelf_now before now status
+    ran_runs (draw name out) (draw_outcome out layer) shelf_before shelf_now before now status
     (told_drawn name out layer shelf_before.files read) kept (draws_one name out) (λ no. no) (λ (no : Done ≡ WriteFault). cc) ends
 
 -- files that were refused are told
 pub refused_runs : (program : Program) (refusal : Status) (shelf_before shelf_now : ShelfState) (before now : Outside) (status : Status)
     → RefusesFiles program shelf_before shelf_now refusal
-    → Ends (refused refusal) before now status → Runs (Some program) shelf_before shelf_now before now status
+    → Ends (refusal_outcome refusal) before now status → Runs (Some program) shelf_before shelf_now before now status
 refused_runs program (ReadFault name) shelf_before shelf_now before now status why ends = inr (record {
   file = name;
   reached = why.0;
@@ -122,30 +122,21 @@ refused_runs program (ReadFault name) shelf_before shelf_now before now status w
   ends = ends;
 })
 refused_runs program (Layer name row word) shelf_before shelf_now before now status why ends =
-    ran_runs program (refused (Layer name row word)) shelf_before shelf_now before now status why.told why.faults why.answer
+    ran_runs program (refusal_outcome (Layer name row word)) shelf_before shelf_now before now status why.told why.faults why.answer
     (λ no. no) (λ (no : Layer name row word ≡ WriteFault). cc) ends
 refused_runs program (Limit place which count) shelf_before shelf_now before now status why ends =
-    ran_runs program (refused (Limit place which count)) shelf_before shelf_now before now status why.told why.faults why.answer
+    ran_runs program (refusal_outcome (Limit place which count)) shelf_before shelf_now before now status why.told why.faults why.answer
     (λ no. no) (λ (no : Limit place which count ≡ WriteFault). cc) ends
 refused_runs program NoMemory shelf_before shelf_now before now status why ends = inl (record {
-  due = due_of (Some program) shelf_before.files (refused NoMemory);
-  ends = for_want_of_memory (due_of (Some program) shelf_before.files (refused NoMemory)) before now status ends;
-  told = told_due (Some program) shelf_before.files (refused NoMemory);
+  due = due_of (Some program) shelf_before.files (refusal_outcome NoMemory);
+  ends = for_want_of_memory (due_of (Some program) shelf_before.files (refusal_outcome NoMemory)) before now status ends;
+  told = told_due (Some program) shelf_before.files (refusal_outcome NoMemory);
   faults = why;
-  answer = answers (Some program) shelf_now (refused NoMemory) before now status tt ends;
-  read = no_read_fault (refused NoMemory) before now status (λ no. no) ends;
-  write = ends_in_fault (refused NoMemory) before now status (λ (no : NoMemory ≡ WriteFault). cc) ends;
+  answer = answers (Some program) shelf_now (refusal_outcome NoMemory) before now status tt ends;
+  read = no_read_fault (refusal_outcome NoMemory) before now status (λ no. no) ends;
+  write = ends_in_fault (refusal_outcome NoMemory) before now status (λ (no : NoMemory ≡ WriteFault). cc) ends;
 })
 refused_runs program (Script row word) shelf_before shelf_now before now status why ends = absurd why
 refused_runs program Done shelf_before shelf_now before now status why ends = absurd why
 refused_runs program Usage shelf_before shelf_now before now status why ends = absurd why
 refused_runs program WriteFault shelf_before shelf_now before now status why ends = absurd why
-
--- a refusal is never answered as done
-pub refused_not_done : (refusal : Status) (before now : Outside) (status : Status) → (refusal ≡ Done → ⊥) → Ends (refused refusal) before now status → status ≡ Done → ⊥
-refused_not_done refusal before now status other (inl whole) done = other (sym whole.ending ∙ done)
-refused_not_done refusal before now status other (inr (inl off)) done = let no : WriteFault ≡ Done = sym off.ending ∙ done in cc
-refused_not_done refusal before now status other (inr (inr out)) done = let no : NoMemory ≡ Done = sym out.ending ∙ done in cc
-
-pub files_not_done : (program : Program) (shelf_before shelf_now : ShelfState) (refusal : Status) → RefusesFiles program shelf_before shelf_now refusal → refusal ≡ Done → ⊥
-files_not_done program shelf_before shelf_now refusal why done = subst (RefusesFiles program shelf_before shelf_now) done why

@@ -15,7 +15,7 @@ use Rattle.hd_script.proofs.Causes.{no_want}
 use Rattle.hd_session.specs.declared.refusal.Refusal.{Refusal}
 use Rattle.hd_session.specs.declared.refusal.Refusal.TheVariants as refusal
 use Rattle.hd_session.specs.Laws.{is_own_cause}
-use Rattle.hd_session.specs.States.{State, opened}
+use Rattle.hd_session.specs.States.{State, opening_state}
 use Rattle.hd_session.specs.Steps as session
 use Rattle.hd_session.proofs.Causes.{have_own_causes}
 use Rattle.hd_app.specs.declared.status.Status.{Status}
@@ -23,12 +23,13 @@ use Rattle.hd_app.specs.declared.status.Status.TheVariants.{Done, Usage, Layer, 
 use Rattle.hd_app.specs.declared.status.Place.TheVariants.{Words, File, Line}
 use Rattle.hd_app.specs.Commands.{Program, draw, step, draw_of, step_of}
 use Rattle.hd_app.specs.Commands as program
-use Rattle.hd_app.specs.Stages.{Ends, Runs}
+use Rattle.hd_app.specs.inner.Stages.{Ends, Runs}
 use Rattle.hd_app.specs.Endings.{IsReadFault}
-use Rattle.hd_app.specs.Outcomes.{stepped}
+use Rattle.hd_app.specs.Outcomes.{step_outcome}
 use Rattle.hd_app.specs.Refusing.{Outcome}
-use Rattle.hd_app.specs.Runs.{ShelfState, IsOpen, IsAnswerTo}
-use Rattle.hd_app.specs.Scripts.{LineStep, line_refusal, line_step, step_of_line, continued, lines_of, outcome_of_lines}
+use Rattle.hd_io.specs.Shelf.{ShelfState}
+use Rattle.hd_app.specs.Runs.{IsOpen, IsAnswerTo}
+use Rattle.hd_app.specs.Scripts.{LineStep, line_refusal, line_step, step_of_line, continue_from, lines_of, outcome_of_lines}
 use Rattle.hd_app.proofs.RunLemmas.{ran_runs}
 
 -- the endings of a script: it was done, or one of its lines is refused
@@ -69,7 +70,7 @@ line_ends name number s (Ok (Some c)) wants = command_ends name number (session.
 line_ends name number s (Err why) wants = line_refusal_ends name number why (λ is. wants (ap (λ (w : LineFault). Err w) is))
 
 continued_ends : (name : List ℕ) (further : State → Outcome) (st : LineStep) → EndsIfRefused name st → ((after : State) → EndsScript name (further after).ending)
-    → EndsScript name (continued further st).ending
+    → EndsScript name (continue_from further st).ending
 continued_ends name further (Ok done) own rest = rest done.0
 continued_ends name further (Err status) own rest = own
 
@@ -143,11 +144,11 @@ some_layers (word ∷ words) layers script is =
 
 -- a script that was run over layers that were read
 pub stepped_runs : (layers : List (List ℕ)) (script : List ℕ) (read : List LayerSpec) (bytes : List ℕ) (shelf_before shelf_now : ShelfState) (before now : Outside) (status : Status) → length layers ≤ 8
-    → IfSome shelf_before.files (λ files. stepped files layers script ≡ outcome_of_lines script 1 (opened read) (lines_of bytes)) → shelf_now.faults ≡ shelf_before.faults → IsOpen shelf_now script
-    → Ends (outcome_of_lines script 1 (opened read) (lines_of bytes)) before now status → Runs (Some (step layers script)) shelf_before shelf_now before now status
+    → IfSome shelf_before.files (λ files. step_outcome files layers script ≡ outcome_of_lines script 1 (opening_state read) (lines_of bytes)) → shelf_now.faults ≡ shelf_before.faults → IsOpen shelf_now script
+    → Ends (outcome_of_lines script 1 (opening_state read) (lines_of bytes)) before now status → Runs (Some (step layers script)) shelf_before shelf_now before now status
 stepped_runs layers script read bytes shelf_before shelf_now before now status few told kept is_open ends =
-    let own = script_ends script 1 (opened read) (lines_of bytes) in
-    ran_runs (step layers script) (outcome_of_lines script 1 (opened read) (lines_of bytes)) shelf_before shelf_now before now status told kept
-    (script_answers layers script shelf_now (outcome_of_lines script 1 (opened read) (lines_of bytes)).ending few is_open own)
-    (script_reads script (outcome_of_lines script 1 (opened read) (lines_of bytes)).ending own)
-    (script_writes script (outcome_of_lines script 1 (opened read) (lines_of bytes)).ending own) ends
+    let own = script_ends script 1 (opening_state read) (lines_of bytes) in
+    ran_runs (step layers script) (outcome_of_lines script 1 (opening_state read) (lines_of bytes)) shelf_before shelf_now before now status told kept
+    (script_answers layers script shelf_now (outcome_of_lines script 1 (opening_state read) (lines_of bytes)).ending few is_open own)
+    (script_reads script (outcome_of_lines script 1 (opening_state read) (lines_of bytes)).ending own)
+    (script_writes script (outcome_of_lines script 1 (opening_state read) (lines_of bytes)).ending own) ends

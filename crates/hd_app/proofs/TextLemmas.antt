@@ -15,13 +15,13 @@ abbrev pub feed_or_len : List ℕ → ℕ
 feed_or_len [] = 0
 feed_or_len (b ∷ bs) = cond (is_feed b) 0 (suc (feed_or_len bs))
 
--- the line up to the first line feed, and those behind it
+-- the line up to the first line feed, and those after it
 first_line_if : (b : ℕ) (bs : List ℕ) (feed : Bool) → cond feed 0 (suc (feed_or_len bs)) < suc (length bs)
     → (feed_or_len bs < length bs → lines_of bs ≡ take (feed_or_len bs) bs ∷ lines_of (drop (suc (feed_or_len bs)) bs))
     → cond feed ([] ∷ lines_of bs) (with_byte b (lines_of bs))
     ≡ take (cond feed 0 (suc (feed_or_len bs))) (b ∷ bs) ∷ lines_of (drop (suc (cond feed 0 (suc (feed_or_len bs)))) (b ∷ bs))
-first_line_if b bs true lt behind = refl
-first_line_if b bs false lt behind = ap (with_byte b) (behind (omega (arith, lt)))
+first_line_if b bs true lt after = refl
+first_line_if b bs false lt after = ap (with_byte b) (after (omega (arith, lt)))
 
 first_line : (text : List ℕ) → feed_or_len text < length text → lines_of text ≡ take (feed_or_len text) text ∷ lines_of (drop (suc (feed_or_len text)) text)
 first_line [] lt = absurd (omega (arith, lt))
@@ -29,8 +29,8 @@ first_line (b ∷ bs) lt = first_line_if b bs (is_feed b) lt (first_line bs)
 
 one_line_if : (b : ℕ) (bs : List ℕ) (feed : Bool) → suc (length bs) ≤ cond feed 0 (suc (feed_or_len bs))
     → (length bs ≤ feed_or_len bs → lines_of bs ≡ bs ∷ []) → cond feed ([] ∷ lines_of bs) (with_byte b (lines_of bs)) ≡ (b ∷ bs) ∷ []
-one_line_if b bs true le behind = absurd (omega (arith, le))
-one_line_if b bs false le behind = ap (with_byte b) (behind (omega (arith, le)))
+one_line_if b bs true le after = absurd (omega (arith, le))
+one_line_if b bs false le after = ap (with_byte b) (after (omega (arith, le)))
 
 one_line : (text : List ℕ) → length text ≤ feed_or_len text → lines_of text ≡ text ∷ []
 one_line [] le = refl
@@ -60,7 +60,7 @@ line_to_feed text end is =
     first_line text within
     ∙ ap (λ (k : ℕ). take k text ∷ lines_of (drop (suc k) text)) same
     ∙ ap (λ (k : ℕ). take end text ∷ lines_of (drop k text)) next
-    ∙ ap (λ (behind : List ℕ). take end text ∷ lines_of behind) (sym (take_all (length text - (end + 1)) (drop (end + 1) text) (omega (arith, length-drop (end + 1) text))))
+    ∙ ap (λ (after : List ℕ). take end text ∷ lines_of after) (sym (take_all (length text - (end + 1)) (drop (end + 1) text) (omega (arith, length-drop (end + 1) text))))
 
 -- a text without a line feed is one line
 pub line_alone : (text : List ℕ) → position is_feed text ≡ None → lines_of text ≡ text ∷ []

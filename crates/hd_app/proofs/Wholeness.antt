@@ -1,32 +1,32 @@
--- No outcome is broken off.
+-- No outcome is itself interrupted.
 use Rattle.std.proofs.Common.{ℕ, length, Bool, true, false, if◌then◌else◌, List, [], ◌∷◌, Option, Some, None, Ok, Err}
 use Rattle.std.specs.Prelude.{Result, nat_lt}
-use Rattle.hd_usda.specs.Cursors.{Fault}
-use Rattle.hd_usda.specs.Layers.{reads}
+use Rattle.hd_usda.specs.reading.Cursor.{Fault}
+use Rattle.hd_usda.specs.Layer.{reads}
 use Rattle.hd_layer.specs.Limits.{limit_of}
 use Rattle.hd_layer.specs.declared.fault.LayerWhy.{LayerWhy}
 use Rattle.hd_layer.specs.declared.fault.LayerWhy.TheVariants as why
 use Rattle.hd_layer.specs.declared.limits.Which.TheVariants.{Layers, Bytes}
 use Rattle.hd_layer.specs.declared.spec.LayerSpec.{LayerSpec}
 use Rattle.hd_io.specs.Files.{FileMap, bytes_of}
-use Rattle.hd_session.specs.States.{opened}
+use Rattle.hd_session.specs.States.{opening_state}
 use Rattle.hd_app.specs.declared.status.Status.{Status}
 use Rattle.hd_app.specs.declared.status.Status.TheVariants.{Done, Usage, Layer, Script, Limit, ReadFault, WriteFault, NoMemory}
 use Rattle.hd_app.specs.declared.status.Place.TheVariants.{Words, File}
 use Rattle.hd_app.specs.Commands.{Program, draw, step, command}
-use Rattle.hd_app.specs.Endings.{IsBrokenOff}
+use Rattle.hd_app.specs.Endings.{IsInterruption}
 use Rattle.hd_app.specs.Laws.{OutcomesEndWhole}
-use Rattle.hd_app.specs.Outcomes.{refusal_at, layer_spelled, layer_of_file, layer_in, drawn_if_read, with_layer, layers_in, script_of_file, script_in, stepped_if_read, outcome_of, byte_limit}
-use Rattle.hd_app.specs.Refusing.{Outcome, refused}
+use Rattle.hd_app.specs.Outcomes.{refusal_at, layer_spelled, layer_of_file, layer_in, draw_if_read, with_layer, layers_in, script_of_file, script_in, step_if_read, outcome_of, byte_limit}
+use Rattle.hd_app.specs.Refusing.{Outcome, refusal_outcome}
 use Rattle.hd_app.specs.Scripts.{lines_of, outcome_of_lines}
 use Rattle.hd_app.proofs.ScriptLemmas.{EndsScript, script_ends}
 
 -- where a part of a run is refused, its refusal tells itself
 abbrev EndsWell : {T : Type 0} → Result T Status → Type 0
 EndsWell (Ok value) = Unit {0}
-EndsWell (Err status) = ¬ IsBrokenOff status
+EndsWell (Err status) = ¬ IsInterruption status
 
-refusal_well : (name : List ℕ) (number : ℕ) (cause : LayerWhy) → ¬ IsBrokenOff (refusal_at name number cause)
+refusal_well : (name : List ℕ) (number : ℕ) (cause : LayerWhy) → ¬ IsInterruption (refusal_at name number cause)
 refusal_well name number (why.Limit which) is = is
 refusal_well name number why.Header is = is
 refusal_well name number why.Syntax is = is
@@ -61,7 +61,7 @@ script_well : (name : List ℕ) (file : Option (List ℕ)) → EndsWell (script_
 script_well name None = λ is. is
 script_well name (Some bytes) = either (nat_lt byte_limit (length bytes)) (Err (Limit (File name) Bytes byte_limit)) (Ok bytes) (λ is. is) tt
 
-lines_well : (name : List ℕ) (status : Status) → EndsScript name status → ¬ IsBrokenOff status
+lines_well : (name : List ℕ) (status : Status) → EndsScript name status → ¬ IsInterruption status
 lines_well name WriteFault ends is = ends
 lines_well name NoMemory ends is = ends
 lines_well name Done ends is = is
@@ -71,26 +71,26 @@ lines_well name (Script line cause) ends is = is
 lines_well name (Limit place which count) ends is = is
 lines_well name (ReadFault file) ends is = is
 
-drawn_well : (out : List ℕ) (read : Result LayerSpec Status) → EndsWell read → ¬ IsBrokenOff (drawn_if_read out read).ending
+drawn_well : (out : List ℕ) (read : Result LayerSpec Status) → EndsWell read → ¬ IsInterruption (draw_if_read out read).ending
 drawn_well out (Ok layer) own = λ is. is
 drawn_well out (Err status) own = own
 
 stepped_well : (name : List ℕ) (layers : Result (List LayerSpec) Status) (script : Result (List ℕ) Status) → EndsWell layers → EndsWell script
-    → ¬ IsBrokenOff (stepped_if_read name layers script).ending
+    → ¬ IsInterruption (step_if_read name layers script).ending
 stepped_well name (Ok layers) (Ok script) own other =
-    lines_well name (outcome_of_lines name 1 (opened layers) (lines_of script)).ending (script_ends name 1 (opened layers) (lines_of script))
+    lines_well name (outcome_of_lines name 1 (opening_state layers) (lines_of script)).ending (script_ends name 1 (opening_state layers) (lines_of script))
 stepped_well name (Ok layers) (Err status) own other = other
 stepped_well name (Err status) script own other = own
 
-either_ending : (b : Bool) (x y : Outcome) → ¬ IsBrokenOff x.ending → ¬ IsBrokenOff y.ending → ¬ IsBrokenOff (if b then x else y).ending
+either_ending : (b : Bool) (x y : Outcome) → ¬ IsInterruption x.ending → ¬ IsInterruption y.ending → ¬ IsInterruption (if b then x else y).ending
 either_ending true x y own other = own
 either_ending false x y own other = other
 
-of_program : (files : FileMap) (program : Option Program) → ¬ IsBrokenOff (outcome_of files program).ending
+of_program : (files : FileMap) (program : Option Program) → ¬ IsInterruption (outcome_of files program).ending
 of_program files None = λ is. is
 of_program files (Some (draw layer out)) = drawn_well out (layer_in files layer) (file_well layer (bytes_of files layer))
 of_program files (Some (step layers script)) =
-    either_ending (nat_lt (limit_of Layers) (length layers)) (refused (Limit Words Layers (limit_of Layers))) (stepped_if_read script (layers_in files layers) (script_in files script))
+    either_ending (nat_lt (limit_of Layers) (length layers)) (refusal_outcome (Limit Words Layers (limit_of Layers))) (step_if_read script (layers_in files layers) (script_in files script))
     (λ is. is) (stepped_well script (layers_in files layers) (script_in files script) (layers_well files layers) (script_well script (bytes_of files script)))
 
 pub outcomes_end_whole : OutcomesEndWhole

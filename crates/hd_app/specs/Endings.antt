@@ -33,13 +33,13 @@ IsReadFault (Limit place which count) = ⊥
 IsReadFault WriteFault = ⊥
 IsReadFault NoMemory = ⊥
 
--- the run was broken off
-abbrev pub IsBrokenOff : Status → Type 0
-IsBrokenOff WriteFault = Unit {0}
-IsBrokenOff NoMemory = Unit {0}
-IsBrokenOff Done = ⊥
-IsBrokenOff Usage = ⊥
-IsBrokenOff (Layer file line why) = ⊥
-IsBrokenOff (Script line cause) = ⊥
-IsBrokenOff (Limit place which count) = ⊥
-IsBrokenOff (ReadFault name) = ⊥
+-- the run was interrupted
+abbrev pub IsInterruption : Status → Type 0
+IsInterruption WriteFault = Unit {0}
+IsInterruption NoMemory = Unit {0}
+IsInterruption Done = ⊥
+IsInterruption Usage = ⊥
+IsInterruption (Layer file line why) = ⊥
+IsInterruption (Script line cause) = ⊥
+IsInterruption (Limit place which count) = ⊥
+IsInterruption (ReadFault name) = ⊥

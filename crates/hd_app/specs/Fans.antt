@@ -14,10 +14,10 @@ faces (count ∷ counts) indices = take (nat_abs count) indices ∷ faces counts
 abbrev pub corner : List ℤ → ℕ → ℤ
 corner face k = slice_index_or face k (pos 0)
 
--- the first corner of a face with its corner k and the one behind that
+-- the first corner of a face with its corner k and the one after that
 abbrev pub fan_corners : List ℤ → ℕ → ℤ × ℤ × ℤ
 fan_corners face k = (corner face 0, corner face k, corner face (k + 1))
 
--- a face is a fan: its first corner with each two neighbours behind it
+-- a face is a fan: its first corner with each two neighbours after it
 abbrev pub fan : List ℤ → List (ℤ × ℤ × ℤ)
 fan face = map (fan_corners face) (range_with_len 1 (length face - 2))

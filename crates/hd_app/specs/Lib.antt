@@ -1,16 +1,11 @@
-pub mod CommandWords
 pub mod Commands
 pub mod Endings
 pub mod Fans
 pub mod FaultLines
-pub mod Frames
 pub mod Laws
-pub mod Lines
 pub mod Outcomes
-pub mod Reading
-pub mod Refusals
 pub mod Refusing
 pub mod RootDraws
 pub mod Runs
 pub mod Scripts
-pub mod Stages
+pub mod inner

@@ -8,17 +8,17 @@ use Rattle.hd_layer.specs.declared.fault.LayerWhy.{LayerWhy}
 use Rattle.hd_layer.specs.declared.fault.LayerWhy.TheVariants as why
 use Rattle.hd_layer.specs.declared.limits.Which.TheVariants.{Layers, Bytes}
 use Rattle.hd_layer.specs.declared.spec.LayerSpec.{LayerSpec}
-use Rattle.hd_usda.specs.Cursors.{Fault}
-use Rattle.hd_usda.specs.Layers.{reads}
+use Rattle.hd_usda.specs.reading.Cursor.{Fault}
+use Rattle.hd_usda.specs.Layer.{reads}
 use Rattle.hd_layer.specs.Limits.{limit_of}
 use Rattle.hd_io.specs.Acts.{file, line}
 use Rattle.hd_io.specs.Files.{FileMap, bytes_of}
-use Rattle.hd_session.specs.States.{opened}
+use Rattle.hd_session.specs.States.{opening_state}
 use Rattle.hd_app.specs.declared.status.Status.{Status}
 use Rattle.hd_app.specs.declared.status.Status.TheVariants.{Done, Usage, Layer, Limit, ReadFault}
 use Rattle.hd_app.specs.declared.status.Place.TheVariants.{Words, File, Line}
 use Rattle.hd_app.specs.Commands.{Program, draw, step, command}
-use Rattle.hd_app.specs.Refusing.{Outcome, refused}
+use Rattle.hd_app.specs.Refusing.{Outcome, refusal_outcome}
 use Rattle.hd_app.specs.RootDraws.{root_draws}
 use Rattle.hd_app.specs.Scripts.{lines_of, outcome_of_lines}
 
@@ -34,8 +34,8 @@ abbrev pub frame_line : List ℕ → List ℕ
 frame_line name = codes "frame " ++ name ++ codes " converged 16 of 16\n"
 
 -- the picture of a layer, and the line of its frame
-abbrev pub drawn : List ℕ → LayerSpec → Outcome
-drawn out layer = record {
+abbrev pub draw_outcome : List ℕ → LayerSpec → Outcome
+draw_outcome out layer = record {
   acts = file out (ppm 64 64 (picture (root_frame layer))) ∷ line (frame_line out) ∷ [];
   ending = Done;
 }
@@ -67,9 +67,9 @@ abbrev pub layer_in : FileMap → List ℕ → Result LayerSpec Status
 layer_in files name = layer_of_file name (bytes_of files name)
 
 -- the picture of a layer that was read
-abbrev pub drawn_if_read : List ℕ → Result LayerSpec Status → Outcome
-drawn_if_read out (Ok layer) = drawn out layer
-drawn_if_read out (Err status) = refused status
+abbrev pub draw_if_read : List ℕ → Result LayerSpec Status → Outcome
+draw_if_read out (Ok layer) = draw_outcome out layer
+draw_if_read out (Err status) = refusal_outcome status
 
 -- one more layer
 abbrev pub with_layer : Result LayerSpec Status → Result (List LayerSpec) Status → Result (List LayerSpec) Status
@@ -91,21 +91,21 @@ abbrev pub script_in : FileMap → List ℕ → Result (List ℕ) Status
 script_in files name = script_of_file name (bytes_of files name)
 
 -- the script of this name over layers, where all were read
-abbrev pub stepped_if_read : List ℕ → Result (List LayerSpec) Status → Result (List ℕ) Status → Outcome
-stepped_if_read name (Ok layers) (Ok script) = outcome_of_lines name 1 (opened layers) (lines_of script)
-stepped_if_read name (Ok layers) (Err status) = refused status
-stepped_if_read name (Err status) script = refused status
+abbrev pub step_if_read : List ℕ → Result (List LayerSpec) Status → Result (List ℕ) Status → Outcome
+step_if_read name (Ok layers) (Ok script) = outcome_of_lines name 1 (opening_state layers) (lines_of script)
+step_if_read name (Ok layers) (Err status) = refusal_outcome status
+step_if_read name (Err status) script = refusal_outcome status
 
 -- the script over the layers; there are at most eight
-abbrev pub stepped : FileMap → List (List ℕ) → List ℕ → Outcome
-stepped files layers script =
-    if nat_lt (limit_of Layers) (length layers) then refused (Limit Words Layers (limit_of Layers))
-    else stepped_if_read script (layers_in files layers) (script_in files script)
+abbrev pub step_outcome : FileMap → List (List ℕ) → List ℕ → Outcome
+step_outcome files layers script =
+    if nat_lt (limit_of Layers) (length layers) then refusal_outcome (Limit Words Layers (limit_of Layers))
+    else step_if_read script (layers_in files layers) (script_in files script)
 
 abbrev pub outcome_of : FileMap → Option Program → Outcome
-outcome_of files None = refused Usage
-outcome_of files (Some (draw layer out)) = drawn_if_read out (layer_in files layer)
-outcome_of files (Some (step layers script)) = stepped files layers script
+outcome_of files None = refusal_outcome Usage
+outcome_of files (Some (draw layer out)) = draw_if_read out (layer_in files layer)
+outcome_of files (Some (step layers script)) = step_outcome files layers script
 
 -- what is written for these words over these files, and the status
 abbrev pub outcome : List (List ℕ) → FileMap → Outcome

@@ -9,5 +9,5 @@ pub record Outcome : Type 0 where
   pub ending : Status
 
 -- a refusal tells itself by its line
-abbrev pub refused : Status → Outcome
-refused status = record { acts = line (fault_line status) ∷ []; ending = status }
+abbrev pub refusal_outcome : Status → Outcome
+refusal_outcome status = record { acts = line (fault_line status) ∷ []; ending = status }

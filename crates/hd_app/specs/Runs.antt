@@ -1,7 +1,8 @@
 -- A run over a shelf that may fail.
-use Rattle.std.specs.Prelude.{◌≡◌, ◌+◌, ◌<◌, ◌⊎◌, ℕ, List, length, take, slice_get, All, Contains, Option, Some, None, IfSome, IsSomeAnd, IsOk, Bool, false}
+use Rattle.std.specs.Prelude.{◌≡◌, ◌+◌, ◌<◌, ◌⊎◌, ℕ, List, length, take, slice_get, All, Contains, Option, Some, None, IfSome, IsSomeAnd, IsOk}
 use Rattle.hd_io.specs.Causes.{Rose}
 use Rattle.hd_io.specs.Files.{FileMap}
+use Rattle.hd_io.specs.Shelf.{ShelfState}
 use Rattle.hd_app.specs.declared.status.Status.{Status}
 use Rattle.hd_app.specs.declared.status.Status.TheVariants.{Done, Usage, Layer, Script, Limit, ReadFault, WriteFault, NoMemory}
 use Rattle.hd_app.specs.declared.status.Place.{Place}
@@ -12,19 +13,7 @@ use Rattle.hd_layer.specs.Limits.{limit_of}
 use Rattle.hd_io.specs.Acts.{Outside, WroteCut}
 use Rattle.hd_app.specs.Commands.{Program, draw, step, layer_names, file_names, HasFewLayers}
 use Rattle.hd_app.specs.Outcomes.{outcome_of, layer_in, byte_limit}
-use Rattle.hd_app.specs.Refusing.{refused}
-
--- what a shelf says of itself: its files where it tells them, the name of the open one, its count of faults, the name that
--- failed last, and how many bytes were taken from the open file
-pub record ShelfState : Type 0 where
-  pub files : Option FileMap
-  pub opened : Option (List ℕ)
-  pub faults : ℕ
-  pub failed : Option (List ℕ)
-  pub taken : ℕ
-
-abbrev pub shelf_state : Option FileMap → Option (List ℕ) → ℕ → Option (List ℕ) → ℕ → ShelfState
-shelf_state files opened faults failed taken = record { files = files; opened = opened; faults = faults; failed = failed; taken = taken }
+use Rattle.hd_app.specs.Refusing.{refusal_outcome}
 
 -- the file of this name is the open one
 abbrev pub IsOpen : ShelfState → List ℕ → Type 0
@@ -70,15 +59,8 @@ IsAnswerTo program shelf (ReadFault file) = IsSomeAnd program (λ p. IsReached p
 IsAnswerTo program shelf WriteFault = Unit {0}
 IsAnswerTo program shelf NoMemory = Unit {0}
 
--- what a run that was broken off has written: a beginning of what its files make it write, or, where the shelf failed, of the line that tells that
-abbrev pub BrokeOff : Option Program → FileMap → (shelf_before shelf_now : ShelfState) → (before now : Outside) → Type 0
-BrokeOff program files shelf_before shelf_now before now =
+-- what an interrupted run has written: a beginning of what its files make it write, or, where the shelf failed, of the line that tells that
+abbrev pub Interrupted : Option Program → FileMap → (shelf_before shelf_now : ShelfState) → (before now : Outside) → Type 0
+Interrupted program files shelf_before shelf_now before now =
     WroteCut (outcome_of files program).acts before now
-    ⊎ (Rose shelf_before.faults shelf_now.faults × IsSomeAnd shelf_now.failed (λ name. WroteCut (refused (ReadFault name)).acts before now))
-
--- whether the rack's last file is open behind a command that was done: one that draws has closed its file, and a script has
--- made none
-abbrev pub LeavesOpen : Option Program → (before now : Bool) → Type 0
-LeavesOpen None before now = ⊥
-LeavesOpen (Some (draw layer out)) before now = now ≡ false
-LeavesOpen (Some (step layers script)) before now = now ≡ before
+    ⊎ (Rose shelf_before.faults shelf_now.faults × IsSomeAnd shelf_now.failed (λ name. WroteCut (refusal_outcome (ReadFault name)).acts before now))

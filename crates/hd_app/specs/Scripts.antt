@@ -14,14 +14,14 @@ use Rattle.hd_session.specs.Steps as session
 use Rattle.hd_app.specs.declared.status.Status.{Status}
 use Rattle.hd_app.specs.declared.status.Status.TheVariants.{Done, Script, Limit, WriteFault, NoMemory}
 use Rattle.hd_app.specs.declared.status.Place.TheVariants.{Line}
-use Rattle.hd_app.specs.Refusing.{Outcome, refused}
+use Rattle.hd_app.specs.Refusing.{Outcome, refusal_outcome}
 
--- the bytes up to the first line feed, and behind it
+-- the bytes up to the first line feed, and after it
 abbrev pub with_byte : ℕ → List (List ℕ) → List (List ℕ)
 with_byte b [] = (b ∷ []) ∷ []
 with_byte b (line ∷ lines) = (b ∷ line) ∷ lines
 
--- the lines of a text, without the line feeds that end them; behind the last line feed there is one more, which may be empty
+-- the lines of a text, without the line feeds that end them; after the last line feed there is one more, which may be empty
 abbrev pub lines_of : List ℕ → List (List ℕ)
 lines_of [] = [] ∷ []
 lines_of (b ∷ bs) = if nat_eq b 10 then [] ∷ lines_of bs else with_byte b (lines_of bs)
@@ -55,21 +55,21 @@ line_step script number s (Ok None) = Ok (s, [])
 line_step script number s (Ok (Some command)) = step_of_line script number (session.step s command)
 line_step script number s (Err why) = Err (line_refusal script number why)
 
--- acts, and behind them an outcome
-abbrev pub preceded : List Act → Outcome → Outcome
-preceded acts outcome = record { acts = acts ++ outcome.acts; ending = outcome.ending }
+-- acts, and after them an outcome
+abbrev pub after_acts : List Act → Outcome → Outcome
+after_acts acts outcome = record { acts = acts ++ outcome.acts; ending = outcome.ending }
 
 -- an outcome that goes on from the state of a step, or ends in its refusal
-abbrev pub continued : (State → Outcome) → LineStep → Outcome
-continued further (Ok done) = preceded done.1 (further done.0)
-continued further (Err status) = refused status
+abbrev pub continue_from : (State → Outcome) → LineStep → Outcome
+continue_from further (Ok done) = after_acts done.1 (further done.0)
+continue_from further (Err status) = refusal_outcome status
 
 -- the outcome of the end of a script
-abbrev pub ended : session.Done → Outcome
-ended done = record { acts = done.1; ending = Done }
+abbrev pub end_of_script : session.Done → Outcome
+end_of_script done = record { acts = done.1; ending = Done }
 
 -- the outcome of lines, of which the first has this number, from a state on
 abbrev pub outcome_of_lines : (script : List ℕ) (number : ℕ) → State → (lines : List (List ℕ)) → Outcome
-outcome_of_lines script number s [] = ended (session.at_end s)
+outcome_of_lines script number s [] = end_of_script (session.at_end s)
 outcome_of_lines script number s (line ∷ lines) =
-    continued (λ after. outcome_of_lines script (number + 1) after lines) (line_step script number s (reads_line line))
+    continue_from (λ after. outcome_of_lines script (number + 1) after lines) (line_step script number s (reads_line line))

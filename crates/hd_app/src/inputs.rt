@@ -1,12 +1,11 @@
 //! The files of a command that runs a script.
 
 ghost use Rattle.std.specs.Prelude.{◌≡◌, ◌≤◌, length, map, string_bytes, All, IfOk, IfErr, IfSome, IsTrue, OnOk, Ok, Some, vec_len};
-ghost use Rattle.hd_session.specs.States.{opened};
+ghost use Rattle.hd_session.specs.States.{opening_state};
 ghost use Rattle.hd_layer.specs.WellFormed.{is_layer};
 ghost use Rattle.hd_app.specs.Commands.{step};
-ghost use Rattle.hd_app.specs.Outcomes.{layers_in, script_in, stepped, byte_limit};
-ghost use Rattle.hd_app.specs.Runs.{shelf_state};
-ghost use Rattle.hd_app.specs.Refusals.{RefusesLayers, RefusesScript, RefusesFiles, ReadsWithin};
+ghost use Rattle.hd_app.specs.Outcomes.{layers_in, script_in, step_outcome, byte_limit};
+ghost use Rattle.hd_app.specs.inner.Refusals.{RefusesLayers, RefusesScript, RefusesFiles, ReadsWithin};
 ghost use Rattle.hd_app.specs.Scripts.{lines_of, outcome_of_lines};
 
 use crate::layer::{name_of, read_layer, stopped};
@@ -22,16 +21,16 @@ fn read_layers<S: Shelf>(
     shelf: &mut S,
     names: &[String],
 ) -> Result<Vec<LayerSpec>, Status>
-    ensures layers { IfOk result (λ layers. IfSome (S.files shelf.old) (λ files. layers_in files (map string_bytes names.now) ≡ Ok layers.items)) }
+    ensures layers { IfOk result (λ layers. IfSome (S.state shelf.old).files (λ files. layers_in files (map string_bytes names.now) ≡ Ok layers.items)) }
     ensures formed { IfOk result (λ layers. All (λ layer. IsTrue (is_layer layer)) layers.items) }
     ensures all { IfOk result (λ layers. vec_len layers ≡ length names.now) }
-    ensures kept { OnOk result (S.faults shelf.new ≡ S.faults shelf.old) }
+    ensures kept { OnOk result ((S.state shelf.new).faults ≡ (S.state shelf.old).faults) }
     ensures refusal { IfErr result (RefusesLayers (map string_bytes names.now)
-        (shelf_state (S.files shelf.old) (S.opened shelf.old) (S.faults shelf.old) (S.failed shelf.old) (S.taken shelf.old))
-        (shelf_state (S.files shelf.new) (S.opened shelf.new) (S.faults shelf.new) (S.failed shelf.new) (S.taken shelf.new))) }
+        (S.state shelf.old)
+        (S.state shelf.new)) }
     ensures within { ReadsWithin
-        (shelf_state (S.files shelf.old) (S.opened shelf.old) (S.faults shelf.old) (S.failed shelf.old) (S.taken shelf.old))
-        (shelf_state (S.files shelf.new) (S.opened shelf.new) (S.faults shelf.new) (S.failed shelf.new) (S.taken shelf.new)) }
+        (S.state shelf.old)
+        (S.state shelf.new) }
 {
     let mut layers = Vec::new(alloc);
     for name in names {
@@ -43,16 +42,16 @@ fn read_layers<S: Shelf>(
 
 /// Reads the script of this name.
 fn read_script<S: Shelf>(alloc: Global, shelf: &mut S, name: &str) -> Result<Vec<u8>, Status>
-    ensures script { IfOk result (λ bytes. IfSome (S.files shelf.old) (λ files. script_in files name.now ≡ Ok bytes.items)) }
+    ensures script { IfOk result (λ bytes. IfSome (S.state shelf.old).files (λ files. script_in files name.now ≡ Ok bytes.items)) }
     ensures short { IfOk result (λ bytes. vec_len bytes ≤ byte_limit) }
-    ensures left_open { OnOk result (S.opened shelf.new ≡ Some name.now) }
-    ensures kept { OnOk result (S.faults shelf.new ≡ S.faults shelf.old) }
+    ensures left_open { OnOk result ((S.state shelf.new).opened ≡ Some name.now) }
+    ensures kept { OnOk result ((S.state shelf.new).faults ≡ (S.state shelf.old).faults) }
     ensures refusal { IfErr result (RefusesScript name.now
-        (shelf_state (S.files shelf.old) (S.opened shelf.old) (S.faults shelf.old) (S.failed shelf.old) (S.taken shelf.old))
-        (shelf_state (S.files shelf.new) (S.opened shelf.new) (S.faults shelf.new) (S.failed shelf.new) (S.taken shelf.new))) }
+        (S.state shelf.old)
+        (S.state shelf.new)) }
     ensures within { ReadsWithin
-        (shelf_state (S.files shelf.old) (S.opened shelf.old) (S.faults shelf.old) (S.failed shelf.old) (S.taken shelf.old))
-        (shelf_state (S.files shelf.new) (S.opened shelf.new) (S.faults shelf.new) (S.failed shelf.new) (S.taken shelf.new)) }
+        (S.state shelf.old)
+        (S.state shelf.new) }
 {
     let Ok(file) = name_of(alloc, name) else {
         return Err(Status::NoMemory);
@@ -71,21 +70,21 @@ pub fn read_inputs<S: Shelf>(
     script: &str,
 ) -> Result<(Vec<LayerSpec>, Vec<u8>), Status>
     requires { 1 ≤ length layers.now }
-    ensures told { IfOk result (λ read. IfSome (S.files shelf.old) (λ files. stepped files (map string_bytes layers.now) script.now
-        ≡ outcome_of_lines script.now 1 (opened read.0.items) (lines_of read.1.items))) }
+    ensures told { IfOk result (λ read. IfSome (S.state shelf.old).files (λ files. step_outcome files (map string_bytes layers.now) script.now
+        ≡ outcome_of_lines script.now 1 (opening_state read.0.items) (lines_of read.1.items))) }
     ensures some { IfOk result (λ read. 1 ≤ vec_len read.0) }
     ensures few { IfOk result (λ read. vec_len read.0 ≤ 8) }
     ensures taken { OnOk result (length layers.now ≤ 8) }
     ensures formed { IfOk result (λ read. All (λ layer. IsTrue (is_layer layer)) read.0.items) }
     ensures short { IfOk result (λ read. vec_len read.1 ≤ byte_limit) }
-    ensures left_open { OnOk result (S.opened shelf.new ≡ Some script.now) }
-    ensures kept { OnOk result (S.faults shelf.new ≡ S.faults shelf.old) }
+    ensures left_open { OnOk result ((S.state shelf.new).opened ≡ Some script.now) }
+    ensures kept { OnOk result ((S.state shelf.new).faults ≡ (S.state shelf.old).faults) }
     ensures refusal { IfErr result (RefusesFiles (step (map string_bytes layers.now) script.now)
-        (shelf_state (S.files shelf.old) (S.opened shelf.old) (S.faults shelf.old) (S.failed shelf.old) (S.taken shelf.old))
-        (shelf_state (S.files shelf.new) (S.opened shelf.new) (S.faults shelf.new) (S.failed shelf.new) (S.taken shelf.new))) }
+        (S.state shelf.old)
+        (S.state shelf.new)) }
     ensures within { ReadsWithin
-        (shelf_state (S.files shelf.old) (S.opened shelf.old) (S.faults shelf.old) (S.failed shelf.old) (S.taken shelf.old))
-        (shelf_state (S.files shelf.new) (S.opened shelf.new) (S.faults shelf.new) (S.failed shelf.new) (S.taken shelf.new)) }
+        (S.state shelf.old)
+        (S.state shelf.new) }
 {
     if layers.len() as u64 > Which::Layers.number() {
         return Err(Status::Limit {

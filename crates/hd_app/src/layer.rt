@@ -3,8 +3,7 @@
 ghost use Rattle.std.specs.Prelude.{◌≡◌, ◌≤◌, length, IfOk, IfErr, IfSome, IsTrue, OnOk, Ok};
 ghost use Rattle.hd_layer.specs.WellFormed.{is_layer};
 ghost use Rattle.hd_app.specs.Outcomes.{layer_in, layer_of_bytes, refusal_at, byte_limit};
-ghost use Rattle.hd_app.specs.Runs.{shelf_state};
-ghost use Rattle.hd_app.specs.Refusals.{status_of_stop, status_of_fault, RefusesBytes, RefusesLayer, ReadsWithin};
+ghost use Rattle.hd_app.specs.inner.Refusals.{status_of_stop, status_of_fault, RefusesBytes, RefusesLayer, ReadsWithin};
 
 use crate::reading::{ReadStop, read_file};
 use crate::status::{Place, Status};
@@ -61,15 +60,15 @@ fn unread(file: List<u8>, fault: LayerFault) -> Status
 
 /// Reads the layer of this name.
 pub fn read_layer<S: Shelf>(alloc: Global, shelf: &mut S, name: &str) -> Result<LayerSpec, Status>
-    ensures layer { IfOk result (λ layer. IfSome (S.files shelf.old) (λ files. layer_in files name.now ≡ Ok layer)) }
+    ensures layer { IfOk result (λ layer. IfSome (S.state shelf.old).files (λ files. layer_in files name.now ≡ Ok layer)) }
     ensures formed { IfOk result (λ layer. IsTrue (is_layer layer)) }
-    ensures kept { OnOk result (S.faults shelf.new ≡ S.faults shelf.old) }
+    ensures kept { OnOk result ((S.state shelf.new).faults ≡ (S.state shelf.old).faults) }
     ensures refusal { IfErr result (RefusesLayer name.now
-        (shelf_state (S.files shelf.old) (S.opened shelf.old) (S.faults shelf.old) (S.failed shelf.old) (S.taken shelf.old))
-        (shelf_state (S.files shelf.new) (S.opened shelf.new) (S.faults shelf.new) (S.failed shelf.new) (S.taken shelf.new))) }
+        (S.state shelf.old)
+        (S.state shelf.new)) }
     ensures within { ReadsWithin
-        (shelf_state (S.files shelf.old) (S.opened shelf.old) (S.faults shelf.old) (S.failed shelf.old) (S.taken shelf.old))
-        (shelf_state (S.files shelf.new) (S.opened shelf.new) (S.faults shelf.new) (S.failed shelf.new) (S.taken shelf.new)) }
+        (S.state shelf.old)
+        (S.state shelf.new) }
 {
     let Ok(file) = name_of(alloc, name) else {
         return Err(Status::NoMemory);

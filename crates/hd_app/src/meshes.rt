@@ -66,7 +66,7 @@ fn triangle(points: &[Vec3], a: i64, b: i64, c: i64) -> Option<WorldTri>
     })
 }
 
-/// The triangle of a face's first corner, corner `k` and the one behind that.
+/// The triangle of a face's first corner, corner `k` and the one after that.
 fn fan_triangle(points: &[Vec3], face: &[i64], k: usize) -> Option<WorldTri>
     requires { k + 1 < length face.now }
     ensures { result ≡ triangle points.now (fan_corners face.now k) }
@@ -115,12 +115,12 @@ fn push_mesh(
     Ok(())
 }
 
-/// The indices of a face of so many corners, and those behind them.
+/// The indices of a face of so many corners, and those after them.
 fn split_face(indices: &[i64], count: i64) -> (&[i64], &[i64])
     requires counted { pos 0 ≤ℤ count }
     requires within { nat_abs count ≤ length indices.now }
     ensures face { result.0.now ≡ take (nat_abs count) indices.now }
-    ensures behind { result.1.now ≡ drop (nat_abs count) indices.now }
+    ensures after { result.1.now ≡ drop (nat_abs count) indices.now }
 {
     indices.split_at(count as usize)
 }
@@ -137,9 +137,9 @@ fn push_faces(
 {
     let mut rest = indices;
     for count in counts {
-        let (face, behind) = split_face(rest, *count);
+        let (face, after) = split_face(rest, *count);
         push_face(points, face, tris)?;
-        rest = behind;
+        rest = after;
     }
     Ok(())
 }

@@ -5,7 +5,7 @@ ghost use Rattle.hd_io.specs.Causes.{Rose};
 ghost use Rattle.hd_io.specs.Files.{open_bytes};
 ghost use Rattle.hd_app.specs.declared.reading.ReadStop.TheVariants.{NoMemory};
 ghost use Rattle.hd_app.specs.Outcomes.{byte_limit};
-ghost use Rattle.hd_app.specs.Reading.{Holds, HoldsTooMuch, HoldsOpen, HoldsOpenTooMuch, UnlessFailed, StopsAs};
+ghost use Rattle.hd_app.specs.inner.Reading.{Holds, HoldsTooMuch, HoldsOpen, HoldsOpenTooMuch, UnlessFailed, StopsAs};
 
 use hd_io::{OutsideFault, Shelf};
 use std::alloc::{AllocError, Global};
@@ -48,17 +48,17 @@ impl From<AllocError> for ReadStop {
 
 /// Reads a file whole, in pieces, and gives up once it has taken one byte more than the limit.
 pub fn read_file<S: Shelf>(alloc: Global, shelf: &mut S, name: &str) -> Result<Vec<u8>, ReadStop>
-    ensures opened { OnOk result (S.opened shelf.new ≡ Some name.now) }
-    ensures passed_by { IsErrOf result ReadStop.TooLong → S.opened shelf.new ≡ Some name.now }
-    ensures whole { IfOk result (λ bytes. Holds (S.files shelf.old) name.now bytes.items) }
+    ensures opened { OnOk result ((S.state shelf.new).opened ≡ Some name.now) }
+    ensures passed_by { IsErrOf result ReadStop.TooLong → (S.state shelf.new).opened ≡ Some name.now }
+    ensures whole { IfOk result (λ bytes. Holds (S.state shelf.old).files name.now bytes.items) }
     ensures short { IfOk result (λ bytes. vec_len bytes ≤ byte_limit) }
-    ensures too_long { IsErrOf result ReadStop.TooLong → HoldsTooMuch (S.files shelf.old) name.now }
-    ensures passed { IsErrOf result ReadStop.TooLong → S.taken shelf.new ≡ byte_limit + 1 }
-    ensures taken { S.taken shelf.new ≤ max (S.taken shelf.old) (byte_limit + 1) }
-    ensures files { S.files shelf.new ≡ S.files shelf.old }
-    ensures failed { IsErrOf result ReadStop.Failed → Rose (S.faults shelf.old) (S.faults shelf.new) }
-    ensures named { IsErrOf result ReadStop.Failed → S.failed shelf.new ≡ Some name.now }
-    ensures kept { UnlessFailed result (S.faults shelf.new ≡ S.faults shelf.old) }
+    ensures too_long { IsErrOf result ReadStop.TooLong → HoldsTooMuch (S.state shelf.old).files name.now }
+    ensures passed { IsErrOf result ReadStop.TooLong → (S.state shelf.new).taken ≡ byte_limit + 1 }
+    ensures taken { (S.state shelf.new).taken ≤ max (S.state shelf.old).taken (byte_limit + 1) }
+    ensures files { (S.state shelf.new).files ≡ (S.state shelf.old).files }
+    ensures failed { IsErrOf result ReadStop.Failed → Rose (S.state shelf.old).faults (S.state shelf.new).faults }
+    ensures named { IsErrOf result ReadStop.Failed → (S.state shelf.new).failed ≡ Some name.now }
+    ensures kept { UnlessFailed result ((S.state shelf.new).faults ≡ (S.state shelf.old).faults) }
 {
     shelf.open(name)?;
     read_open(alloc, shelf)
@@ -66,19 +66,19 @@ pub fn read_file<S: Shelf>(alloc: Global, shelf: &mut S, name: &str) -> Result<V
 
 /// Reads the open file from its first byte.
 fn read_open<S: Shelf>(alloc: Global, shelf: &mut S) -> Result<Vec<u8>, ReadStop>
-    requires begun { S.taken shelf.old ≡ 0 }
-    requires open { IsSome (S.opened shelf.old) }
-    requires there { IfSome (S.files shelf.old) (λ map. IsSome (open_bytes map (S.opened shelf.old))) }
-    ensures whole { IfOk result (λ bytes. HoldsOpen (S.files shelf.old) (S.opened shelf.old) bytes.items) }
+    requires begun { (S.state shelf.old).taken ≡ 0 }
+    requires open { IsSome (S.state shelf.old).opened }
+    requires there { IfSome (S.state shelf.old).files (λ map. IsSome (open_bytes map (S.state shelf.old).opened)) }
+    ensures whole { IfOk result (λ bytes. HoldsOpen (S.state shelf.old).files (S.state shelf.old).opened bytes.items) }
     ensures short { IfOk result (λ bytes. vec_len bytes ≤ byte_limit) }
-    ensures too_long { IsErrOf result ReadStop.TooLong → HoldsOpenTooMuch (S.files shelf.old) (S.opened shelf.old) }
-    ensures passed { IsErrOf result ReadStop.TooLong → S.taken shelf.new ≡ byte_limit + 1 }
-    ensures opened { S.opened shelf.new ≡ S.opened shelf.old }
-    ensures taken { S.taken shelf.new ≤ byte_limit + 1 }
-    ensures files { S.files shelf.new ≡ S.files shelf.old }
-    ensures failed { IsErrOf result ReadStop.Failed → Rose (S.faults shelf.old) (S.faults shelf.new) }
-    ensures named { IsErrOf result ReadStop.Failed → S.failed shelf.new ≡ S.opened shelf.old }
-    ensures kept { UnlessFailed result (S.faults shelf.new ≡ S.faults shelf.old) }
+    ensures too_long { IsErrOf result ReadStop.TooLong → HoldsOpenTooMuch (S.state shelf.old).files (S.state shelf.old).opened }
+    ensures passed { IsErrOf result ReadStop.TooLong → (S.state shelf.new).taken ≡ byte_limit + 1 }
+    ensures opened { (S.state shelf.new).opened ≡ (S.state shelf.old).opened }
+    ensures taken { (S.state shelf.new).taken ≤ byte_limit + 1 }
+    ensures files { (S.state shelf.new).files ≡ (S.state shelf.old).files }
+    ensures failed { IsErrOf result ReadStop.Failed → Rose (S.state shelf.old).faults (S.state shelf.new).faults }
+    ensures named { IsErrOf result ReadStop.Failed → (S.state shelf.new).failed ≡ (S.state shelf.old).opened }
+    ensures kept { UnlessFailed result ((S.state shelf.new).faults ≡ (S.state shelf.old).faults) }
 {
     let mut bytes = Vec::new(alloc);
     let mut buffer = [0; CHUNK];

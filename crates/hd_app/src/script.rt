@@ -2,19 +2,18 @@
 
 ghost use Rattle.std.specs.Prelude.{◌≡◌, ◌<◌, ◌≤◌, ◌⊎◌, ◌∷◌, false, length, All, OnOk, IfErr, IfSome, IsTrue, nat_eq, option_copied, vec_len};
 ghost use Rattle.std.specs.List.{position};
-ghost use Rattle.hd_io.specs.Acts.{outside};
 ghost use Rattle.hd_script.specs.Commands.{reads_line};
 ghost use Rattle.hd_script.specs.WellFormed.{is_command};
 ghost use Rattle.hd_session.specs.Answers.{Does};
 ghost use Rattle.hd_session.specs.Steps.{step, at_end};
-ghost use Rattle.hd_session.specs.States.{opened};
+ghost use Rattle.hd_session.specs.States.{opening_state};
 ghost use Rattle.hd_layer.specs.Limits.{limit_of};
 ghost use Rattle.hd_layer.specs.WellFormed.{is_layer};
 ghost use Rattle.hd_app.specs.declared.status.Place.TheVariants.{Line};
-ghost use Rattle.hd_app.specs.Stages.{Ends};
-ghost use Rattle.hd_app.specs.Lines.{RefusesLine, lines_left};
+ghost use Rattle.hd_app.specs.inner.Stages.{Ends};
+ghost use Rattle.hd_app.specs.inner.Lines.{RefusesLine, lines_left};
 ghost use Rattle.hd_app.specs.Outcomes.{byte_limit};
-ghost use Rattle.hd_app.specs.Scripts.{lines_of, line_refusal, command_refusal, line_step, step_of_line, ended, outcome_of_lines};
+ghost use Rattle.hd_app.specs.Scripts.{lines_of, line_refusal, command_refusal, line_step, step_of_line, end_of_script, outcome_of_lines};
 
 use crate::layer::name_of;
 use crate::status::{Place, Status};
@@ -79,13 +78,12 @@ fn run_command<K: Rack, O: Sink>(
     requires unspent { session.old.is_spent ≡ false }
     requires formed { IsTrue (is_command command.now) }
     ensures done { OnOk result (Does (step_of_line name.now number (step session.old.state command.now)) session.new.state
-        (outside (K.held rack.old) (K.faults rack.old) (O.held out.old) (O.faults out.old))
-        (outside (K.held rack.new) (K.faults rack.new) (O.held out.new) (O.faults out.new))) }
+        (record { rack = K.state rack.old; sink = O.state out.old })
+        (record { rack = K.state rack.new; sink = O.state out.new })) }
     ensures unspent { OnOk result (session.new.is_spent ≡ false) }
     ensures refusal { IfErr result (RefusesLine (step_of_line name.now number (step session.old.state command.now))
-        (outside (K.held rack.old) (K.faults rack.old) (O.held out.old) (O.faults out.old))
-        (outside (K.held rack.new) (K.faults rack.new) (O.held out.new) (O.faults out.new))) }
-    ensures open { K.is_open rack.new ≡ K.is_open rack.old }
+        (record { rack = K.state rack.old; sink = O.state out.old })
+        (record { rack = K.state rack.new; sink = O.state out.new })) }
 {
     match session.command(alloc, command, rack, out) {
         Ok(()) => Ok(()),
@@ -105,13 +103,12 @@ fn run_line<K: Rack, O: Sink>(
 ) -> Result<(), Status>
     requires unspent { session.old.is_spent ≡ false }
     ensures done { OnOk result (Does (line_step name.now number session.old.state (reads_line line.now)) session.new.state
-        (outside (K.held rack.old) (K.faults rack.old) (O.held out.old) (O.faults out.old))
-        (outside (K.held rack.new) (K.faults rack.new) (O.held out.new) (O.faults out.new))) }
+        (record { rack = K.state rack.old; sink = O.state out.old })
+        (record { rack = K.state rack.new; sink = O.state out.new })) }
     ensures unspent { OnOk result (session.new.is_spent ≡ false) }
     ensures refusal { IfErr result (RefusesLine (line_step name.now number session.old.state (reads_line line.now))
-        (outside (K.held rack.old) (K.faults rack.old) (O.held out.old) (O.faults out.old))
-        (outside (K.held rack.new) (K.faults rack.new) (O.held out.new) (O.faults out.new))) }
-    ensures open { K.is_open rack.new ≡ K.is_open rack.old }
+        (record { rack = K.state rack.old; sink = O.state out.old })
+        (record { rack = K.state rack.new; sink = O.state out.new })) }
 {
     match hd_script::read_line(alloc, line) {
         Ok(None) => Ok(()),
@@ -127,10 +124,10 @@ fn first_feed(text: &[u8]) -> Option<usize>
     text.iter().position(|byte| *byte == b'\n')
 }
 
-/// The first line of a text, and the text behind its line feed, if it has one.
+/// The first line of a text, and the text after its line feed, if it has one.
 fn split_line(text: &[u8]) -> (&[u8], Option<&[u8]>)
     ensures lines { lines_of text.now ≡ result.0.now ∷ lines_left (option_copied result.1) }
-    ensures shorter { IfSome (option_copied result.1) (λ behind. length behind < length text.now) }
+    ensures shorter { IfSome (option_copied result.1) (λ after. length after < length text.now) }
 {
     match first_feed(text) {
         Some(end) => (&text[..end], Some(&text[end + 1..])),
@@ -153,10 +150,9 @@ fn unfinished(refusal: Refusal) -> Status
 /// Ends a script that was read to its end.
 fn end_script<K: Rack, O: Sink>(session: &mut Session, rack: &mut K, out: &mut O) -> Status
     requires unspent { session.old.is_spent ≡ false }
-    ensures ends { Ends (ended (at_end session.old.state))
-        (outside (K.held rack.old) (K.faults rack.old) (O.held out.old) (O.faults out.old))
-        (outside (K.held rack.new) (K.faults rack.new) (O.held out.new) (O.faults out.new)) result }
-    ensures open { K.is_open rack.new ≡ K.is_open rack.old }
+    ensures ends { Ends (end_of_script (at_end session.old.state))
+        (record { rack = K.state rack.old; sink = O.state out.old })
+        (record { rack = K.state rack.new; sink = O.state out.new }) result }
 {
     match session.finish(rack, out) {
         Ok(()) => Status::Done,
@@ -176,19 +172,18 @@ fn run_script<K: Rack, O: Sink>(
     requires unspent { session.old.is_spent ≡ false }
     requires short { length bytes.now ≤ byte_limit }
     ensures ends { Ends (outcome_of_lines name.now 1 session.old.state (lines_of bytes.now))
-        (outside (K.held rack.old) (K.faults rack.old) (O.held out.old) (O.faults out.old))
-        (outside (K.held rack.new) (K.faults rack.new) (O.held out.new) (O.faults out.new)) result }
-    ensures open { K.is_open rack.new ≡ K.is_open rack.old }
+        (record { rack = K.state rack.old; sink = O.state out.old })
+        (record { rack = K.state rack.new; sink = O.state out.new }) result }
 {
     let mut number = 1;
     let mut left = Some(bytes);
     'lines: while let Some(text) = left {
-        let (line, behind) = split_line(text);
+        let (line, after) = split_line(text);
         if let Err(refusal) = run_line(alloc, session, name, number, line, rack, out) {
             return refuse(alloc, refusal, out);
         }
         number += 1;
-        left = behind;
+        left = after;
     }
     end_script(session, rack, out)
 }
@@ -206,10 +201,9 @@ pub fn run_over<K: Rack, O: Sink>(
     requires few { vec_len layers ≤ 8 }
     requires formed { All (λ layer. IsTrue (is_layer layer)) layers.items }
     requires short { length bytes.now ≤ byte_limit }
-    ensures ends { Ends (outcome_of_lines name.now 1 (opened layers.items) (lines_of bytes.now))
-        (outside (K.held rack.old) (K.faults rack.old) (O.held out.old) (O.faults out.old))
-        (outside (K.held rack.new) (K.faults rack.new) (O.held out.new) (O.faults out.new)) result }
-    ensures open { K.is_open rack.new ≡ K.is_open rack.old }
+    ensures ends { Ends (outcome_of_lines name.now 1 (opening_state layers.items) (lines_of bytes.now))
+        (record { rack = K.state rack.old; sink = O.state out.old })
+        (record { rack = K.state rack.new; sink = O.state out.new }) result }
 {
     match Session::open(alloc, layers) {
         Ok(mut session) => run_script(alloc, &mut session, name, bytes, rack, out),

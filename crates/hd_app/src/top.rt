@@ -1,15 +1,15 @@
 //! The call that the program makes.
 
-ghost use Rattle.std.specs.Prelude.{◌≡◌, ◌+◌, ◌≤◌, ◌⊎◌, Some, IfSome, false, length, map, max, string_bytes};
+ghost use Rattle.std.specs.Prelude.{◌≡◌, ◌+◌, ◌≤◌, ◌⊎◌, Some, IfSome, length, map, max, string_bytes};
 ghost use Rattle.hd_io.specs.Causes.{Rose};
-ghost use Rattle.hd_io.specs.Acts.{outside, Wrote, NoFault};
-ghost use Rattle.hd_app.specs.Endings.{EndsWhole, IsDecided, IsReadFault, IsBrokenOff};
+ghost use Rattle.hd_io.specs.Acts.{Wrote, NoFault, WriteFailed};
+ghost use Rattle.hd_app.specs.Endings.{EndsWhole, IsDecided, IsReadFault, IsInterruption};
 ghost use Rattle.hd_app.specs.Outcomes.{outcome, byte_limit};
-ghost use Rattle.hd_app.specs.Refusing.{refused};
+ghost use Rattle.hd_app.specs.Refusing.{refusal_outcome};
 ghost use Rattle.hd_app.specs.Commands.{command, draw, step};
-ghost use Rattle.hd_app.specs.Runs.{shelf_state, IsAnswerTo, LeavesOpen, BrokeOff};
-ghost use Rattle.hd_app.specs.Refusals.{ReadsWithin};
-ghost use Rattle.hd_app.specs.Stages.{Runs};
+ghost use Rattle.hd_app.specs.Runs.{IsAnswerTo, Interrupted};
+ghost use Rattle.hd_app.specs.inner.Refusals.{ReadsWithin};
+ghost use Rattle.hd_app.specs.inner.Stages.{Runs};
 
 use crate::inputs::read_inputs;
 use crate::layer::read_layer;
@@ -30,14 +30,13 @@ fn draw<S: Shelf, R: Rack, O: Sink>(
     out: &mut O,
 ) -> Status
     ensures runs { Runs (Some (draw layer.now name.now))
-        (shelf_state (S.files shelf.old) (S.opened shelf.old) (S.faults shelf.old) (S.failed shelf.old) (S.taken shelf.old))
-        (shelf_state (S.files shelf.new) (S.opened shelf.new) (S.faults shelf.new) (S.failed shelf.new) (S.taken shelf.new))
-        (outside (R.held rack.old) (R.faults rack.old) (O.held out.old) (O.faults out.old))
-        (outside (R.held rack.new) (R.faults rack.new) (O.held out.new) (O.faults out.new)) result }
+        (S.state shelf.old)
+        (S.state shelf.new)
+        (record { rack = R.state rack.old; sink = O.state out.old })
+        (record { rack = R.state rack.new; sink = O.state out.new }) result }
     ensures within { ReadsWithin
-        (shelf_state (S.files shelf.old) (S.opened shelf.old) (S.faults shelf.old) (S.failed shelf.old) (S.taken shelf.old))
-        (shelf_state (S.files shelf.new) (S.opened shelf.new) (S.faults shelf.new) (S.failed shelf.new) (S.taken shelf.new)) }
-    ensures closed { result ≡ Status.Done → R.is_open rack.new ≡ false }
+        (S.state shelf.old)
+        (S.state shelf.new) }
 {
     match read_layer(alloc, shelf, layer) {
         Ok(layer) => show(alloc, &layer, name, rack, out),
@@ -56,14 +55,13 @@ fn step<S: Shelf, R: Rack, O: Sink>(
 ) -> Status
     requires { 1 ≤ length layers.now }
     ensures runs { Runs (Some (step (map string_bytes layers.now) script.now))
-        (shelf_state (S.files shelf.old) (S.opened shelf.old) (S.faults shelf.old) (S.failed shelf.old) (S.taken shelf.old))
-        (shelf_state (S.files shelf.new) (S.opened shelf.new) (S.faults shelf.new) (S.failed shelf.new) (S.taken shelf.new))
-        (outside (R.held rack.old) (R.faults rack.old) (O.held out.old) (O.faults out.old))
-        (outside (R.held rack.new) (R.faults rack.new) (O.held out.new) (O.faults out.new)) result }
+        (S.state shelf.old)
+        (S.state shelf.new)
+        (record { rack = R.state rack.old; sink = O.state out.old })
+        (record { rack = R.state rack.new; sink = O.state out.new }) result }
     ensures within { ReadsWithin
-        (shelf_state (S.files shelf.old) (S.opened shelf.old) (S.faults shelf.old) (S.failed shelf.old) (S.taken shelf.old))
-        (shelf_state (S.files shelf.new) (S.opened shelf.new) (S.faults shelf.new) (S.failed shelf.new) (S.taken shelf.new)) }
-    ensures open { R.is_open rack.new ≡ R.is_open rack.old }
+        (S.state shelf.old)
+        (S.state shelf.new) }
 {
     match read_inputs(alloc, shelf, layers, script) {
         Ok((layers, bytes)) => run_over(alloc, layers, script, &bytes, rack, out),
@@ -80,14 +78,13 @@ fn run<S: Shelf, R: Rack, O: Sink>(
     out: &mut O,
 ) -> Status
     ensures runs { Runs (command (map string_bytes words.now))
-        (shelf_state (S.files shelf.old) (S.opened shelf.old) (S.faults shelf.old) (S.failed shelf.old) (S.taken shelf.old))
-        (shelf_state (S.files shelf.new) (S.opened shelf.new) (S.faults shelf.new) (S.failed shelf.new) (S.taken shelf.new))
-        (outside (R.held rack.old) (R.faults rack.old) (O.held out.old) (O.faults out.old))
-        (outside (R.held rack.new) (R.faults rack.new) (O.held out.new) (O.faults out.new)) result }
+        (S.state shelf.old)
+        (S.state shelf.new)
+        (record { rack = R.state rack.old; sink = O.state out.old })
+        (record { rack = R.state rack.new; sink = O.state out.new }) result }
     ensures within { ReadsWithin
-        (shelf_state (S.files shelf.old) (S.opened shelf.old) (S.faults shelf.old) (S.failed shelf.old) (S.taken shelf.old))
-        (shelf_state (S.files shelf.new) (S.opened shelf.new) (S.faults shelf.new) (S.failed shelf.new) (S.taken shelf.new)) }
-    ensures open { result ≡ Status.Done → LeavesOpen (command (map string_bytes words.now)) (R.is_open rack.old) (R.is_open rack.new) }
+        (S.state shelf.old)
+        (S.state shelf.new) }
 {
     match command(words) {
         Some(CommandWords::Draw { layer, out: name }) => draw(alloc, layer, name, shelf, rack, out),
@@ -98,12 +95,12 @@ fn run<S: Shelf, R: Rack, O: Sink>(
     }
 }
 
-/// Does what the words of the command line say, those behind the program's name, and answers how it ended.
+/// Does what the words of the command line say, those after the program's name, and answers how it ended.
 ///
 /// `draw LAYER OUT` reads the layer from the file `LAYER`, draws its meshes to a picture of 64 by 64 pixels, writes
 /// that to the file `OUT`, and then the line of its frame. `step LAYER.. SCRIPT` reads one to eight layers, of which the
 /// first is the strongest, and does what the lines of the file `SCRIPT` say, one after the other. Other words are no
-/// command. A refusal writes the one line that tells it, behind what was written before. Where a write fails or memory
+/// command. A refusal writes the one line that tells it, after what was written before. Where a write fails or memory
 /// runs out, nothing more is written.
 pub fn top_plain<S: Shelf, R: Rack, O: Sink>(
     alloc: Global,
@@ -113,41 +110,41 @@ pub fn top_plain<S: Shelf, R: Rack, O: Sink>(
     out: &mut O,
 ) -> Status
     // The answer, the files and the lines are those of the written outcome, and no object failed.
-    ensures outcome { IsDecided result → IfSome (S.files shelf.old) (λ files. EndsWhole (outcome (map string_bytes words.now) files)
-        (outside (R.held rack.old) (R.faults rack.old) (O.held out.old) (O.faults out.old))
-        (outside (R.held rack.new) (R.faults rack.new) (O.held out.new) (O.faults out.new)) result) }
-    // A command that draws leaves no file open, and a script opens none.
-    ensures closed { result ≡ Status.Done → LeavesOpen (command (map string_bytes words.now)) (R.is_open rack.old) (R.is_open rack.new) }
-    ensures unfailed_shelf { IsDecided result → S.faults shelf.new ≡ S.faults shelf.old }
+    ensures outcome { IsDecided result → IfSome (S.state shelf.old).files (λ files. EndsWhole (outcome (map string_bytes words.now) files)
+        (record { rack = R.state rack.old; sink = O.state out.old })
+        (record { rack = R.state rack.new; sink = O.state out.new }) result) }
+    ensures unfailed_shelf { IsDecided result → (S.state shelf.new).faults ≡ (S.state shelf.old).faults }
     ensures unfailed { IsDecided result → NoFault
-        (outside (R.held rack.old) (R.faults rack.old) (O.held out.old) (O.faults out.old))
-        (outside (R.held rack.new) (R.faults rack.new) (O.held out.new) (O.faults out.new)) }
+        (record { rack = R.state rack.old; sink = O.state out.old })
+        (record { rack = R.state rack.new; sink = O.state out.new }) }
 
     // Where no count of faults rose, the answer is the outcome's, but where memory ran out.
-    ensures complete { ¬ Rose (S.faults shelf.old) (S.faults shelf.new) → ¬ Rose (R.faults rack.old) (R.faults rack.new) → ¬ Rose (O.faults out.old) (O.faults out.new)
-        → IfSome (S.files shelf.old) (λ files. (result ≡ (outcome (map string_bytes words.now) files).ending) ⊎ (result ≡ Status.NoMemory)) }
+    ensures complete { ¬ Rose (S.state shelf.old).faults (S.state shelf.new).faults → ¬ Rose (R.state rack.old).faults (R.state rack.new).faults → ¬ Rose (O.state out.old).faults (O.state out.new).faults
+        → IfSome (S.state shelf.old).files (λ files. (result ≡ (outcome (map string_bytes words.now) files).ending) ⊎ (result ≡ Status.NoMemory)) }
 
     // What each answer says of itself, whether or not the files are told.
     ensures answer { IsAnswerTo (command (map string_bytes words.now))
-        (shelf_state (S.files shelf.new) (S.opened shelf.new) (S.faults shelf.new) (S.failed shelf.new) (S.taken shelf.new)) result }
+        (S.state shelf.new) result }
 
-    ensures read_fault { IsReadFault result → Rose (S.faults shelf.old) (S.faults shelf.new) }
-    ensures read_fault_line { IsReadFault result → Wrote (refused result).acts
-        (outside (R.held rack.old) (R.faults rack.old) (O.held out.old) (O.faults out.old))
-        (outside (R.held rack.new) (R.faults rack.new) (O.held out.new) (O.faults out.new)) }
+    ensures read_fault { IsReadFault result → Rose (S.state shelf.old).faults (S.state shelf.new).faults }
+    ensures read_fault_line { IsReadFault result → Wrote (refusal_outcome result).acts
+        (record { rack = R.state rack.old; sink = O.state out.old })
+        (record { rack = R.state rack.new; sink = O.state out.new }) }
     ensures read_fault_alone { IsReadFault result → NoFault
-        (outside (R.held rack.old) (R.faults rack.old) (O.held out.old) (O.faults out.old))
-        (outside (R.held rack.new) (R.faults rack.new) (O.held out.new) (O.faults out.new)) }
+        (record { rack = R.state rack.old; sink = O.state out.old })
+        (record { rack = R.state rack.new; sink = O.state out.new }) }
     ensures write_fault { result ≡ Status.WriteFault
-        → Rose (R.faults rack.old) (R.faults rack.new) ⊎ Rose (O.faults out.old) (O.faults out.new) }
-    ensures cut { IsBrokenOff result → IfSome (S.files shelf.old) (λ files. BrokeOff (command (map string_bytes words.now)) files
-        (shelf_state (S.files shelf.old) (S.opened shelf.old) (S.faults shelf.old) (S.failed shelf.old) (S.taken shelf.old))
-        (shelf_state (S.files shelf.new) (S.opened shelf.new) (S.faults shelf.new) (S.failed shelf.new) (S.taken shelf.new))
-        (outside (R.held rack.old) (R.faults rack.old) (O.held out.old) (O.faults out.old))
-        (outside (R.held rack.new) (R.faults rack.new) (O.held out.new) (O.faults out.new))) }
+        → WriteFailed
+        (record { rack = R.state rack.old; sink = O.state out.old })
+        (record { rack = R.state rack.new; sink = O.state out.new }) }
+    ensures cut { IsInterruption result → IfSome (S.state shelf.old).files (λ files. Interrupted (command (map string_bytes words.now)) files
+        (S.state shelf.old)
+        (S.state shelf.new)
+        (record { rack = R.state rack.old; sink = O.state out.old })
+        (record { rack = R.state rack.new; sink = O.state out.new })) }
 
-    ensures taken { S.taken shelf.new ≤ max (S.taken shelf.old) (byte_limit + 1) }
-    ensures files { S.files shelf.new ≡ S.files shelf.old }
+    ensures taken { (S.state shelf.new).taken ≤ max (S.state shelf.old).taken (byte_limit + 1) }
+    ensures files { (S.state shelf.new).files ≡ (S.state shelf.old).files }
 {
     run(alloc, words, shelf, rack, out)
 }

@@ -3,7 +3,7 @@
 ghost use Rattle.std.specs.Prelude.{◌≡◌, map, string_bytes};
 ghost use Rattle.std.specs.Option.{option_map};
 ghost use Rattle.hd_app.specs.Commands.{command, draw_of, step_of};
-ghost use Rattle.hd_app.specs.CommandWords.{program_seen};
+ghost use Rattle.hd_app.specs.inner.CommandWords.{program_seen};
 
 /// What the words of the command line ask for.
 #[derive(Clone, Copy, Debug)]

@@ -1,14 +1,14 @@
 //! What a command writes: its picture and the line of its frame, or the line of its refusal.
 
-ghost use Rattle.std.specs.Prelude.{◌≡◌, [], ◌∷◌, false, ℕ, Option, IfOk, IfErr, OnOk, OnErr};
+ghost use Rattle.std.specs.Prelude.{◌≡◌, [], ◌∷◌, IfOk, IfErr, OnOk, OnErr};
 ghost use Rattle.hd_io.specs.Causes.{HasCause};
-ghost use Rattle.hd_io.specs.Files.{FileList};
-ghost use Rattle.hd_io.specs.Acts.{outside, file, line, Wrote, WroteCut, WriteCause, NoFault};
-ghost use Rattle.hd_app.specs.Stages.{Ends, status_of_write};
-ghost use Rattle.hd_app.specs.Endings.{IsBrokenOff};
+ghost use Rattle.hd_io.specs.Rack.{RackState};
+ghost use Rattle.hd_io.specs.Acts.{file, line, Wrote, WroteCut, WriteCause, NoFault};
+ghost use Rattle.hd_app.specs.inner.Stages.{Ends, status_of_write};
+ghost use Rattle.hd_app.specs.Endings.{IsInterruption};
 ghost use Rattle.hd_app.specs.FaultLines.{fault_line};
-ghost use Rattle.hd_app.specs.Outcomes.{drawn, frame_line};
-ghost use Rattle.hd_app.specs.Refusing.{refused};
+ghost use Rattle.hd_app.specs.Outcomes.{draw_outcome, frame_line};
+ghost use Rattle.hd_app.specs.Refusing.{refusal_outcome};
 ghost use Rattle.hd_io.specs.Writing.{with_line, CutLine};
 
 use crate::frame::picture_file;
@@ -17,8 +17,8 @@ use hd_io::{OutsideFault, Rack, Sink, write_file, write_line};
 use hd_layer::LayerSpec;
 use std::alloc::{AllocError, Global};
 
-/// How a run ends whose write was broken off.
-fn broken_off(fault: OutsideFault) -> Status
+/// How a run ends whose write was interrupted.
+fn status_of_write(fault: OutsideFault) -> Status
     ensures { result ≡ status_of_write fault }
 {
     match fault {
@@ -29,9 +29,9 @@ fn broken_off(fault: OutsideFault) -> Status
 
 /// Writes the line of a refusal.
 fn write_refusal<O: Sink>(alloc: Global, refusal: &Status, out: &mut O) -> Result<(), OutsideFault>
-    ensures written { OnOk result (O.held out.new ≡ with_line (fault_line refusal.now) (O.held out.old)) }
-    ensures cut { OnErr result (CutLine (fault_line refusal.now) (O.held out.old) (O.held out.new)) }
-    ensures cause { HasCause (O.faults out.old) (O.faults out.new) result }
+    ensures written { OnOk result ((O.state out.new).text ≡ with_line (fault_line refusal.now) (O.state out.old).text) }
+    ensures cut { OnErr result (CutLine (fault_line refusal.now) (O.state out.old).text (O.state out.new).text) }
+    ensures cause { HasCause (O.state out.old).faults (O.state out.new).faults result }
 {
     match refusal.fault_line(alloc) {
         Ok(line) => write_line(out, &line),
@@ -39,21 +39,20 @@ fn write_refusal<O: Sink>(alloc: Global, refusal: &Status, out: &mut O) -> Resul
     }
 }
 
-/// Writes the line of a refusal, and answers the refusal. A run that was broken off writes nothing more.
+/// Writes the line of a refusal, and answers the refusal. An interrupted run writes nothing more.
 pub fn refuse<O: Sink>(alloc: Global, refusal: Status, out: &mut O) -> Status
-    ensures same { IsBrokenOff refusal → result ≡ refusal }
-    ensures held { IsBrokenOff refusal → O.held out.new ≡ O.held out.old }
-    ensures faults { IsBrokenOff refusal → O.faults out.new ≡ O.faults out.old }
-    ensures ends { (files : Option FileList) (rack_faults : ℕ) → Ends (refused refusal)
-        (outside files rack_faults (O.held out.old) (O.faults out.old))
-        (outside files rack_faults (O.held out.new) (O.faults out.new)) result }
+    ensures same { IsInterruption refusal → result ≡ refusal }
+    ensures kept { IsInterruption refusal → O.state out.new ≡ O.state out.old }
+    ensures ends { (rack : RackState) → Ends (refusal_outcome refusal)
+        (record { rack = rack; sink = O.state out.old })
+        (record { rack = rack; sink = O.state out.new }) result }
 {
     if let Status::WriteFault | Status::NoMemory = refusal {
         return refusal;
     }
     match write_refusal(alloc, &refusal, out) {
         Ok(()) => refusal,
-        Err(fault) => broken_off(fault),
+        Err(fault) => status_of_write(fault),
     }
 }
 
@@ -77,18 +76,17 @@ fn write_frame<R: Rack, O: Sink>(
     text: &[u8],
 ) -> Result<(), OutsideFault>
     ensures written { OnOk result (Wrote (file name.now picture.now ∷ line text.now ∷ [])
-        (outside (R.held rack.old) (R.faults rack.old) (O.held out.old) (O.faults out.old))
-        (outside (R.held rack.new) (R.faults rack.new) (O.held out.new) (O.faults out.new))) }
-    ensures closed { OnOk result (R.is_open rack.new ≡ false) }
+        (record { rack = R.state rack.old; sink = O.state out.old })
+        (record { rack = R.state rack.new; sink = O.state out.new })) }
     ensures cut { OnErr result (WroteCut (file name.now picture.now ∷ line text.now ∷ [])
-        (outside (R.held rack.old) (R.faults rack.old) (O.held out.old) (O.faults out.old))
-        (outside (R.held rack.new) (R.faults rack.new) (O.held out.new) (O.faults out.new))) }
+        (record { rack = R.state rack.old; sink = O.state out.old })
+        (record { rack = R.state rack.new; sink = O.state out.new })) }
     ensures kept { OnOk result (NoFault
-        (outside (R.held rack.old) (R.faults rack.old) (O.held out.old) (O.faults out.old))
-        (outside (R.held rack.new) (R.faults rack.new) (O.held out.new) (O.faults out.new))) }
+        (record { rack = R.state rack.old; sink = O.state out.old })
+        (record { rack = R.state rack.new; sink = O.state out.new })) }
     ensures cause { IfErr result (WriteCause
-        (outside (R.held rack.old) (R.faults rack.old) (O.held out.old) (O.faults out.old))
-        (outside (R.held rack.new) (R.faults rack.new) (O.held out.new) (O.faults out.new))) }
+        (record { rack = R.state rack.old; sink = O.state out.old })
+        (record { rack = R.state rack.new; sink = O.state out.new })) }
 {
     write_file(rack, name, picture)?;
     write_line(out, text)?;
@@ -103,10 +101,9 @@ pub fn show<R: Rack, O: Sink>(
     rack: &mut R,
     out: &mut O,
 ) -> Status
-    ensures ends { Ends (drawn name.now layer.now)
-        (outside (R.held rack.old) (R.faults rack.old) (O.held out.old) (O.faults out.old))
-        (outside (R.held rack.new) (R.faults rack.new) (O.held out.new) (O.faults out.new)) result }
-    ensures closed { result ≡ Status.Done → R.is_open rack.new ≡ false }
+    ensures ends { Ends (draw_outcome name.now layer.now)
+        (record { rack = R.state rack.old; sink = O.state out.old })
+        (record { rack = R.state rack.new; sink = O.state out.new }) result }
 {
     let Ok(picture) = picture_file(alloc, layer) else {
         return Status::NoMemory;
@@ -116,6 +113,6 @@ pub fn show<R: Rack, O: Sink>(
     };
     match write_frame(rack, out, name, &picture, &text) {
         Ok(()) => Status::Done,
-        Err(fault) => broken_off(fault),
+        Err(fault) => status_of_write(fault),
     }
 }

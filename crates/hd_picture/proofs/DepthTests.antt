@@ -57,8 +57,8 @@ nearer_below_highest best eye q tri h = ap (nearer best) (fragment_is eye q tri)
     by false e = refl
 
 -- a triangle beyond the eye changes nothing
-pub nearer_behind : (best : Option Fragment) (w : Weights) (tri : WorldTri) (eye_z : ℤ) → eye_z <ℤ depth w tri → nearer best (fragment_by w tri eye_z) ≡ best
-nearer_behind best w tri eye_z l =
+pub nearer_after : (best : Option Fragment) (w : Weights) (tri : WorldTri) (eye_z : ℤ) → eye_z <ℤ depth w tri → nearer best (fragment_by w tri eye_z) ≡ best
+nearer_after best w tri eye_z l =
     let e : false ≡ int_le (depth w tri) eye_z = omega (arith, ints) in
     rw (sym e)
 

@@ -12,7 +12,9 @@ pub mod NearestLemmas
 pub mod Neighbors
 pub mod Offsets
 pub mod PixelLemmas
+pub mod PictureFiles
 pub mod PixelsInTiles
 pub mod RowEnds
+pub mod Rows
 pub mod TileLemmas
 pub mod TriangleSetupLemmas

@@ -2,8 +2,14 @@
 use Rattle.std.specs.Prelude.{ℕ, List, [], ◌∷◌, ◌++◌, codes, decimal, flat_map}
 use Rattle.hd_num.specs.declared.vector.Rgb.{Rgb}
 
--- the bytes of a file of w by h pixels, whose greatest value is 255
+-- the three bytes of a pixel
+abbrev pub pixel_bytes : Rgb → List ℕ
+pixel_bytes pixel = pixel.r ∷ pixel.g ∷ pixel.b ∷ []
+
+-- the head of a file of w by h pixels, whose greatest value is 255
+abbrev pub ppm_head : (w h : ℕ) → List ℕ
+ppm_head w h = codes "P6\n" ++ decimal w ++ codes " " ++ decimal h ++ codes "\n255\n"
+
+-- the bytes of the file
 unfoldable pub ppm : (w h : ℕ) → List Rgb → List ℕ
-ppm w h pixels =
-    codes "P6\n" ++ decimal w ++ codes " " ++ decimal h ++ codes "\n255\n"
-    ++ flat_map (λ (p : Rgb). p.r ∷ p.g ∷ p.b ∷ []) pixels
+ppm w h pixels = ppm_head w h ++ flat_map pixel_bytes pixels

@@ -8,6 +8,7 @@ mod define;
 mod draws;
 mod laws;
 mod limits;
+mod ppm;
 mod raster;
 
 pub use define::pixels::pixel;
@@ -19,4 +20,5 @@ pub use laws::{
     unseen_triangles_change_nothing, weights_add_up,
 };
 pub use limits::is_drawable;
+pub use ppm::ppm_of;
 pub use raster::tiles::{tile, tile_count};

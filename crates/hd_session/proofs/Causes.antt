@@ -3,14 +3,14 @@ use Rattle.std.proofs.Common.{◌≡◌, ℕ, length, Bool, true, false, not, if
 use Rattle.std.specs.Prelude.{nat_lt}
 use Rattle.std.specs.List.{list_any}
 use Rattle.std.specs.FinMap.{get, contains_key, keys}
-use Rattle.hd_value.specs.Locators.{is_prefix}
+use Rattle.hd_path.specs.Paths.{is_prefix}
 use Rattle.hd_layer.specs.declared.edit.Edit.{Edit}
 use Rattle.hd_layer.specs.declared.edit.Edit.TheVariants.{Define, Set, Clear, Remove, Rename}
 use Rattle.hd_script.specs.declared.command.Command as commands
 use Rattle.hd_script.specs.declared.command.Command.TheVariants as command
 use Rattle.hd_retained.specs.declared.fault.EditFault.{EditFault}
 use Rattle.hd_retained.specs.Layers.{LayerPrim, Layer}
-use Rattle.hd_retained.specs.Edits.{has_parent, is_full_for, changed, with_value, without_value, is_moved_too_deep, edited}
+use Rattle.hd_retained.specs.Edits.{has_parent, is_full_for, change_prim, with_value, without_value, is_moved_too_deep, edit_layer}
 use Rattle.hd_stack.specs.Stacks.{layer_at, with_layer, edited_at}
 use Rattle.hd_session.specs.Laws.{is_own_cause, StepsHaveOwnCauses}
 use Rattle.hd_session.specs.States.{State}
@@ -25,11 +25,11 @@ either : (b : Bool) (x y : Result Layer EditFault) → IsOwn x → IsOwn y → I
 either true x y own other = own
 either false x y own other = other
 
-changed_own : (change : LayerPrim → LayerPrim) (layer : Layer) (path : List (List ℕ)) (there : Option LayerPrim) → IsOwn (changed change layer path there)
+changed_own : (change : LayerPrim → LayerPrim) (layer : Layer) (path : List (List ℕ)) (there : Option LayerPrim) → IsOwn (change_prim change layer path there)
 changed_own change layer path None = refl
 changed_own change layer path (Some p) = tt
 
-edited_own : (layer : Layer) (edit : Edit) → IsOwn (edited layer edit)
+edited_own : (layer : Layer) (edit : Edit) → IsOwn (edit_layer layer edit)
 edited_own layer (Define kind path) = either (not (has_parent layer path)) _ _ refl (either (is_full_for layer path) _ _ refl tt)
 edited_own layer (Set path (Some property)) = changed_own (with_value property) layer path (get layer path)
 edited_own layer (Set path None) = either (contains_key layer path) _ _ tt refl
@@ -61,7 +61,7 @@ chosen_own false x y own other = other
 
 step_own : (s : State) (given : commands.Command) → HasOwn (step s given)
 step_own s (command.Layer number) = chosen_own (nat_lt number (length s.layers)) _ _ tt refl
-step_own s (command.Edit edit) = change_own s (edited_at s.layers s.current edit) (placed_own s.layers s.current (edited (layer_at s.layers s.current) edit) (edited_own (layer_at s.layers s.current) edit))
+step_own s (command.Edit edit) = change_own s (edited_at s.layers s.current edit) (placed_own s.layers s.current (edit_layer (layer_at s.layers s.current) edit) (edited_own (layer_at s.layers s.current) edit))
 step_own s command.Commit = tt
 step_own s (command.Dump name) = refl
 step_own s command.Report = refl

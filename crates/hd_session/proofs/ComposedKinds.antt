@@ -7,16 +7,15 @@ use Rattle.std.specs.FinMap.{get}
 use Rattle.std.specs.BTreeSet as set
 use Rattle.std.specs.BTreeSet.{BTreeSet}
 use Rattle.std.proofs.lemmas.Map.Views.{btree_set_contains_iff}
-use Rattle.hd_value.specs.Locators.{is_prefix}
-use Rattle.hd_path.specs.Paths.{path_cmp}
+use Rattle.hd_path.specs.Paths.{path_cmp, is_prefix}
 use Rattle.hd_scene.specs.Scenes.{kind_at}
 use Rattle.hd_scene.specs.declared.prims.Entry.{Entry}
 use Rattle.hd_scene.proofs.Children.{path_cmp_total, path_cmp_exact}
 use Rattle.hd_merging.specs.Merges.{first_kind, merged_entry, prims_at}
-use Rattle.hd_merging.specs.MergedScenes.{get-merged}
+use Rattle.hd_merging.specs.inner.MergedScenes.{get-merged}
 use Rattle.hd_retained.specs.Layers.{LayerPrim, Layer, entry_of, scene_of, kind_in, ArePathsFrom}
 use Rattle.hd_retained.proofs.Kept.{get-scene}
-use Rattle.hd_stack.specs.Stacks.{composed, layer_at}
+use Rattle.hd_stack.specs.Stacks.{composed_scene, layer_at}
 use Rattle.hd_session.specs.Rows.{is_row_kind, is_row, is_listed, IsUpdated}
 
 abbrev Names : Type 0
@@ -43,7 +42,7 @@ kinds_of_prims (l ∷ ls) q =
       | Some p ↦ ap (λ (ks : List (List ℕ)). p.kind ∷ ks) (kinds_of_prims ls q)
     ]
 
-kind_composed : (layers : List Layer) (q : Names) → kind_at (composed layers) q ≡ kind_of_all (kinds_at layers q)
+kind_composed : (layers : List Layer) (q : Names) → kind_at (composed_scene layers) q ≡ kind_of_all (kinds_at layers q)
 kind_composed layers q =
     ap (option_map (λ (e : Entry). e.kind)) (get-merged (map scene_of layers) q) ∙ kind_of_entries (prims_at (map scene_of layers) q) ∙ ap kind_of_all (kinds_of_prims layers q)
 

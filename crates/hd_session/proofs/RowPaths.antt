@@ -17,7 +17,7 @@ use Rattle.hd_scene.proofs.Ascending.{keys_ascend, same_ascending}
 use Rattle.hd_scene.proofs.Children.{path_cmp_total, path_cmp_exact}
 use Rattle.hd_scene.proofs.Closing.{tied}
 use Rattle.hd_retained.specs.Layers.{Layer}
-use Rattle.hd_stack.specs.Stacks.{composed}
+use Rattle.hd_stack.specs.Stacks.{composed_scene}
 use Rattle.hd_session.specs.Rows.{has_row, row_paths, is_row_kind, is_row, is_listed}
 
 abbrev Names : Type 0
@@ -87,14 +87,14 @@ row_listed scene q =
     kept_listed (entries scene) q (keys_ascend scene) ∙ ap (λ (o : Option Entry). is_row_kind (option_map (λ (e : Entry). e.kind) o)) (sym (get-entries scene q))
 
 -- a set with the rows' paths has a path where a row is
-pub row_known : (layers : List Layer) (rows : BTreeSet Names) (q : Names) → set.keys rows ≡ row_paths (composed layers) → set.contains path_cmp rows q ≡ is_row layers q
-row_known layers rows q is = ap (λ (ks : List Names). is_listed ks q) is ∙ row_listed (composed layers) q
+pub row_known : (layers : List Layer) (rows : BTreeSet Names) (q : Names) → set.keys rows ≡ row_paths (composed_scene layers) → set.contains path_cmp rows q ≡ is_row layers q
+row_known layers rows q is = ap (λ (ks : List Names). is_listed ks q) is ∙ row_listed (composed_scene layers) q
 
 -- and in order
-pub rows_ordered : (layers : List Layer) (rows : BTreeSet Names) → set.keys rows ≡ row_paths (composed layers) → set.IsOrdered path_cmp rows
-rows_ordered layers rows is = subst (IsStrictlySortedBy path_cmp) (sym is) (row_paths_ascend (composed layers))
+pub rows_ordered : (layers : List Layer) (rows : BTreeSet Names) → set.keys rows ≡ row_paths (composed_scene layers) → set.IsOrdered path_cmp rows
+rows_ordered layers rows is = subst (IsStrictlySortedBy path_cmp) (sym is) (row_paths_ascend (composed_scene layers))
 
 -- a set in order that has each path where a row is has the rows' paths
-pub rows_are : (layers : List Layer) (rows : BTreeSet Names) → set.IsOrdered path_cmp rows → ((q : Names) → set.contains path_cmp rows q ≡ is_row layers q) → set.keys rows ≡ row_paths (composed layers)
+pub rows_are : (layers : List Layer) (rows : BTreeSet Names) → set.IsOrdered path_cmp rows → ((q : Names) → set.contains path_cmp rows q ≡ is_row layers q) → set.keys rows ≡ row_paths (composed_scene layers)
 rows_are layers rows ordered has =
-    same_ascending path_cmp_total path_cmp_exact (set.keys rows) (row_paths (composed layers)) ordered (row_paths_ascend (composed layers)) (λ q. has q ∙ sym (row_listed (composed layers) q))
+    same_ascending path_cmp_total path_cmp_exact (set.keys rows) (row_paths (composed_scene layers)) ordered (row_paths_ascend (composed_scene layers)) (λ q. has q ∙ sym (row_listed (composed_scene layers) q))

@@ -12,22 +12,21 @@ use Rattle.hd_layer.specs.declared.edit.Edit.TheVariants.{Define, Set, Clear, Re
 use Rattle.hd_layer.specs.declared.limits.Which.TheVariants.{Prims, Depth}
 use Rattle.hd_layer.specs.Edits.{is_edit}
 use Rattle.hd_layer.specs.WellFormed.{is_below_root}
-use Rattle.hd_value.specs.Locators.{is_prefix}
 use Rattle.std.proofs.lemmas.Bool.{and_parts}
-use Rattle.hd_path.specs.Paths.{path_cmp}
+use Rattle.hd_path.specs.Paths.{path_cmp, is_prefix}
 use Rattle.hd_scene.specs.Scenes.{IsClosed}
 use Rattle.hd_scene.proofs.Children.{path_cmp_total}
 use Rattle.hd_scene.proofs.Closing.{tied}
 use Rattle.hd_retained.specs.declared.fault.EditFault.{EditFault}
 use Rattle.hd_retained.specs.declared.fault.EditFault.TheVariants.{NoPrim, PrimThere, UnderItself, Limit}
 use Rattle.hd_retained.specs.Layers.{LayerPrim, Layer, scene_of, kind_in}
-use Rattle.hd_retained.specs.Edits.{has_parent, is_full_for, changed, with_value, without_value, moved, is_moved_too_deep, edited}
+use Rattle.hd_retained.specs.Edits.{has_parent, is_full_for, change_prim, with_value, without_value, moved_path, is_moved_too_deep, edit_layer}
 use Rattle.hd_retained.proofs.Closed.{get-left}
 use Rattle.hd_retained.proofs.Moving.{renamed, get-renamed}
 use Rattle.hd_retained.proofs.Renamed.{free_below}
-use Rattle.hd_stack.specs.Stacks.{composed, layer_at, with_layer, edited_at, AreSound}
+use Rattle.hd_stack.specs.Stacks.{composed_scene, layer_at, with_layer, edited_at, AreSound}
 use Rattle.hd_session.specs.Rows.{is_row, is_listed, row_paths, IsUpdated}
-use Rattle.hd_session.specs.Touched.{AreTouchedBefore, AreTouchedAfter}
+use Rattle.hd_session.specs.inner.Touched.{AreTouchedBefore, AreTouchedAfter}
 use Rattle.hd_session.proofs.RowPaths.{row_known, rows_are}
 use Rattle.hd_session.proofs.ComposedKinds.{from_listed, same_row, set_there, set_length}
 
@@ -61,7 +60,7 @@ none_is None h = refl
 none_is (Some x) h = cc
 
 -- a prim that is put at a path changes the kind there alone
-define_untouched : (layer new : Layer) (kind : List ℕ) (path q : Names) → edited layer (Define kind path) ≡ Ok new → is_listed (path ∷ []) q ≡ false → kind_in new q ≡ kind_in layer q
+define_untouched : (layer new : Layer) (kind : List ℕ) (path q : Names) → edit_layer layer (Define kind path) ≡ Ok new → is_listed (path ∷ []) q ≡ false → kind_in new q ≡ kind_in layer q
 define_untouched layer new kind path q is away =
     let p : LayerPrim = record { kind = kind; properties = empty } in
     let parent = past (not (has_parent layer path)) NoPrim (if is_full_for layer path then Err (Limit Prims) else Ok (insert layer path p)) new is in
@@ -70,9 +69,9 @@ define_untouched layer new kind path q is away =
     ∙ ap kind_of (get-insert path_cmp_total layer path p q ∙ ap (λ b. cond b (Some p) (get layer q)) (not_this (eq_by_cmp path_cmp q path) false away))
 
 -- a changed prim keeps its kind
-change_untouched : (change : LayerPrim → LayerPrim) → ((p : LayerPrim) → (change p).kind ≡ p.kind) → (layer new : Layer) (path q : Names) → changed change layer path (get layer path) ≡ Ok new → kind_in new q ≡ kind_in layer q
+change_untouched : (change : LayerPrim → LayerPrim) → ((p : LayerPrim) → (change p).kind ≡ p.kind) → (layer new : Layer) (path q : Names) → change_prim change layer path (get layer path) ≡ Ok new → kind_in new q ≡ kind_in layer q
 change_untouched change keeps layer new path q is =
-    elim (get layer path) as (λ (o : Option LayerPrim). get layer path ≡ o → changed change layer path o ≡ Ok new → kind_in new q ≡ kind_in layer q) [
+    elim (get layer path) as (λ (o : Option LayerPrim). get layer path ≡ o → change_prim change layer path o ≡ Ok new → kind_in new q ≡ kind_in layer q) [
       | None ↦ λ _ wrong. cc
       | Some p ↦ λ there is.
           ap (λ (l : Layer). kind_in l q) (done (insert layer path (change p)) new is)
@@ -83,7 +82,7 @@ change_untouched change keeps layer new path q is =
           ] refl
     ] refl is
 
-remove_untouched : (layer new : Layer) (path q : Names) (paths : List Names) → edited layer (Remove path) ≡ Ok new → AreTouchedBefore layer (Remove path) paths → is_listed paths q ≡ false → kind_in new q ≡ kind_in layer q
+remove_untouched : (layer new : Layer) (path q : Names) (paths : List Names) → edit_layer layer (Remove path) ≡ Ok new → AreTouchedBefore layer (Remove path) paths → is_listed paths q ≡ false → kind_in new q ≡ kind_in layer q
 remove_untouched layer new path q paths is from away =
     let gone = within (contains_key layer path) NoPrim (Ok (retain_keys layer (λ p. not (is_prefix path p)))) new is in
     ap (λ (l : Layer). kind_in l q) (done (retain_keys layer (λ p. not (is_prefix path p))) new gone.1)
@@ -100,7 +99,7 @@ not_root (x ∷ path) h e = cc
 abbrev depth_test : Layer → Names → Names → Answer
 depth_test layer from to = if list_any (is_moved_too_deep from to) (keys layer) then Err (Limit Depth) else Ok (renamed layer from to)
 
-rename_untouched : (layer new : Layer) (from to q : Names) (gone come : List Names) → IsClosed (scene_of layer) → is_below_root to ≡ true → edited layer (Rename from to) ≡ Ok new
+rename_untouched : (layer new : Layer) (from to q : Names) (gone come : List Names) → IsClosed (scene_of layer) → is_below_root to ≡ true → edit_layer layer (Rename from to) ≡ Ok new
     → AreTouchedBefore layer (Rename from to) gone → AreTouchedAfter new (Rename from to) come → is_listed gone q ≡ false → is_listed come q ≡ false → kind_in new q ≡ kind_in layer q
 rename_untouched layer new from to q gone come closed below_root is before after away apart =
     let free_test : Answer = if contains_key layer to then Err PrimThere else depth_test layer from to in
@@ -112,18 +111,18 @@ rename_untouched layer new from to q gone come closed below_root is before after
     let free = past (contains_key layer to) PrimThere (depth_test layer from to) new parent.1 in
     let shallow = past (list_any (is_moved_too_deep from to) (keys layer)) (Limit Depth) (Ok (renamed layer from to)) new free.1 in
     let nothing = free_below layer to closed (not_root to below_root) free.0 in
-    let now : get new q ≡ cond (is_prefix to q) (get layer (moved to from q)) (cond (is_prefix from q) None (get layer q)) = ap (λ (l : Layer). get l q) (done (renamed layer from to) new shallow.1) ∙ get-renamed layer from to q nothing in
+    let now : get new q ≡ cond (is_prefix to q) (get layer (moved_path to from q)) (cond (is_prefix from q) None (get layer q)) = ap (λ (l : Layer). get l q) (done (renamed layer from to) new shallow.1) ∙ get-renamed layer from to q nothing in
     elim (is_prefix to q) as (λ b. is_prefix to q ≡ b → kind_in new q ≡ kind_in layer q) [
       | true ↦ λ begins. ap kind_of (none_is (get new q) (sym (from_listed new to come q after begins) ∙ apart) ∙ sym (nothing q begins))
       | false ↦ λ elsewhere.
-          ap kind_of (now ∙ ap (λ b. cond b (get layer (moved to from q)) (cond (is_prefix from q) None (get layer q))) elsewhere)
+          ap kind_of (now ∙ ap (λ b. cond b (get layer (moved_path to from q)) (cond (is_prefix from q) None (get layer q))) elsewhere)
           ∙ elim (is_prefix from q) as (λ b. is_prefix from q ≡ b → kind_of (cond b None (get layer q)) ≡ kind_in layer q) [
             | true ↦ λ begins. ap kind_of (sym (none_is (get layer q) (sym (from_listed layer from gone q before begins) ∙ away)))
             | false ↦ λ _. refl
           ] refl
     ] refl
 
-untouched : (layer new : Layer) (edit : Edit) (gone come : List Names) (q : Names) → IsClosed (scene_of layer) → is_edit edit ≡ true → edited layer edit ≡ Ok new
+untouched : (layer new : Layer) (edit : Edit) (gone come : List Names) (q : Names) → IsClosed (scene_of layer) → is_edit edit ≡ true → edit_layer layer edit ≡ Ok new
     → AreTouchedBefore layer edit gone → AreTouchedAfter new edit come → is_listed gone q ≡ false → is_listed come q ≡ false → kind_in new q ≡ kind_in layer q
 untouched layer new (Define kind path) gone come q closed formed is before after away apart =
     define_untouched layer new kind path q is (ap (λ (ps : List Names). is_listed ps q) (sym before) ∙ away)
@@ -138,9 +137,9 @@ untouched layer new (Rename from to) gone come q closed formed is before after a
     rename_untouched layer new from to q gone come closed (and_parts (is_below_root from) (is_below_root to) formed).1 is before after away apart
 
 -- the layer after an edit that was done, and the layers with it
-pub edit_done : (layers now : List Layer) (n : ℕ) (edit : Edit) → edited_at layers n edit ≡ Ok now → (layer : Layer) × (edited (layer_at layers n) edit ≡ Ok layer) × (now ≡ slice_set layers n layer)
+pub edit_done : (layers now : List Layer) (n : ℕ) (edit : Edit) → edited_at layers n edit ≡ Ok now → (layer : Layer) × (edit_layer (layer_at layers n) edit ≡ Ok layer) × (now ≡ slice_set layers n layer)
 edit_done layers now n edit is =
-    elim (edited (layer_at layers n) edit) as (λ (r : Answer). edited (layer_at layers n) edit ≡ r → with_layer layers n r ≡ Ok now → (layer : Layer) × (edited (layer_at layers n) edit ≡ Ok layer) × (now ≡ slice_set layers n layer)) [
+    elim (edit_layer (layer_at layers n) edit) as (λ (r : Answer). edit_layer (layer_at layers n) edit ≡ r → with_layer layers n r ≡ Ok now → (layer : Layer) × (edit_layer (layer_at layers n) edit ≡ Ok layer) × (now ≡ slice_set layers n layer)) [
       | Ok layer ↦ λ ok set. (layer, ok, taken (slice_set layers n layer) set)
       | Err why ↦ λ _ wrong. absurd (refused why wrong)
     ] refl is
@@ -185,6 +184,6 @@ row_follows layers now n edit rows between after q below sound formed is f known
 
 -- the set has the rows' paths after the edit as it had them before
 pub rows_follow : (layers now : List Layer) (n : ℕ) (edit : Edit) (rows between after : BTreeSet Names) → n < length layers → AreSound layers → is_edit edit ≡ true → edited_at layers n edit ≡ Ok now
-    → Follows layers now n edit rows between after → set.keys rows ≡ row_paths (composed layers) → set.IsOrdered path_cmp after → set.keys after ≡ row_paths (composed now)
+    → Follows layers now n edit rows between after → set.keys rows ≡ row_paths (composed_scene layers) → set.IsOrdered path_cmp after → set.keys after ≡ row_paths (composed_scene now)
 rows_follow layers now n edit rows between after below sound formed is f kept ordered =
     rows_are now after ordered (λ q. row_follows layers now n edit rows between after q below sound formed is f (row_known layers rows q kept))

@@ -1,7 +1,6 @@
 -- What the answer to a command says.
-use Rattle.std.specs.Prelude.{◌≡◌, ◌⊎◌, List, [], Result, Ok, Err}
-use Rattle.hd_io.specs.Acts.{Act, Outside, Wrote, WroteCut, NoFault}
-use Rattle.hd_io.specs.Causes.{Rose}
+use Rattle.std.specs.Prelude.{◌≡◌, List, [], Result, Ok, Err}
+use Rattle.hd_io.specs.Acts.{Act, Outside, Wrote, WroteCut, NoFault, WriteFailed}
 use Rattle.hd_io.specs.declared.fault.OutsideFault.{OutsideFault}
 use Rattle.hd_io.specs.declared.fault.OutsideFault.TheVariants as outside
 use Rattle.hd_session.specs.declared.refusal.Refusal.{Refusal}
@@ -9,7 +8,7 @@ use Rattle.hd_session.specs.declared.refusal.Refusal.TheVariants.{Script, Limit,
 use Rattle.hd_session.specs.States.{State}
 use Rattle.hd_session.specs.Steps.{Done, Step}
 
--- a step was done: its state stands, its acts were made whole, and no object failed
+-- a step was done: its state is, its acts were made whole, and no object failed
 pub record Does {E : Type 0} (step : Result Done E) (after : State) (before now : Outside) : Type 0 where
   pub acts : List Act
   pub is : step ≡ Ok (after, acts)
@@ -25,11 +24,11 @@ acts_of (Err refusal) = []
 abbrev pub IsRefused : {E : Type 0} → Result Done E → E → (before now : Outside) → Type 0
 IsRefused step why before now = (step ≡ Err why) × (now ≡ before)
 
--- a step was broken off, since a write failed
+-- a step was interrupted, since a write failed
 abbrev pub FailsToWrite : {E : Type 0} → Result Done E → (before now : Outside) → Type 0
-FailsToWrite step before now = WroteCut (acts_of step) before now × (Rose before.rack_faults now.rack_faults ⊎ Rose before.sink_faults now.sink_faults)
+FailsToWrite step before now = WroteCut (acts_of step) before now × WriteFailed before now
 
--- a step was broken off, since memory ran out
+-- a step was interrupted, since memory ran out
 abbrev pub WantsMemory : {E : Type 0} → Result Done E → (before now : Outside) → Type 0
 WantsMemory step before now = WroteCut (acts_of step) before now × NoFault before now
 

@@ -3,4 +3,4 @@ pub mod Laws
 pub mod Rows
 pub mod States
 pub mod Steps
-pub mod Touched
+pub mod inner

@@ -15,10 +15,10 @@ state_code =
     code_by (List Layer × (ℕ × ℕ)) (coded× (coded_list layer_code) (coded× coded_ℕ coded_ℕ)) (λ s. (s.layers, (s.current, s.commits))) (λ p. record { layers = p.0; current = p.1.0; commits = p.1.1 }) (λ _. refl)
 
 -- the state before the first line
-abbrev pub opened : List LayerSpec → State
-opened layers = record { layers = map layer_of layers; current = 0; commits = 0 }
+abbrev pub opening_state : List LayerSpec → State
+opening_state layers = record { layers = map layer_of layers; current = 0; commits = 0 }
 
--- a session: its state, and whether a command was refused, behind which there is none
+-- a session: its state, and whether a command was refused, after which there is none
 pub record Session : Type 0 where
   pub state : State
   pub is_spent : Bool

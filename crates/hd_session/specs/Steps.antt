@@ -1,13 +1,13 @@
 -- What each command does to the state and to the outside, or why it is refused.
 use Rattle.std.specs.Prelude.{ℕ, List, [], ◌∷◌, ◌++◌, length, nat_lt, if◌then◌else◌, Result, Ok, Err, codes, decimal}
 use Rattle.hd_io.specs.Acts.{Act, line}
-use Rattle.hd_scene.specs.Scenes.{raised}
+use Rattle.hd_scene.specs.Scenes.{saturating_succ}
 use Rattle.hd_script.specs.declared.command.Command as commands
 use Rattle.hd_script.specs.declared.command.Command.TheVariants as command
 use Rattle.hd_retained.specs.declared.fault.EditFault.{EditFault}
 use Rattle.hd_retained.specs.declared.fault.EditFault.TheVariants as fault
 use Rattle.hd_retained.specs.Layers.{Layer}
-use Rattle.hd_stack.specs.Stacks.{composed, edited_at}
+use Rattle.hd_stack.specs.Stacks.{composed_scene, edited_at}
 use Rattle.hd_session.specs.declared.refusal.ScriptWhy.TheVariants.{NoPrim, PrimThere, UnderItself, NoLayer, Later}
 use Rattle.hd_session.specs.declared.refusal.Refusal.{Refusal}
 use Rattle.hd_session.specs.declared.refusal.Refusal.TheVariants.{Script, Limit, NoMemory}
@@ -49,8 +49,8 @@ commit_line number rows = codes "commit " ++ decimal number ++ codes " rows " ++
 abbrev pub commit : State → Step
 commit s =
     Ok (
-      record { layers = s.layers; current = s.current; commits = raised s.commits },
-      line (commit_line (raised s.commits) (row_count (composed s.layers))) ∷ [],
+      record { layers = s.layers; current = s.current; commits = saturating_succ s.commits },
+      line (commit_line (saturating_succ s.commits) (row_count (composed_scene s.layers))) ∷ [],
     )
 
 -- what a command does. Dumps, reports and frames are not served yet

@@ -4,9 +4,9 @@ ghost use Rattle.std.specs.Prelude.{◌≡◌, ◌<◌, length, Ok, OnOk, IfOk, 
 ghost use Rattle.std.specs.BTreeSet as set;
 ghost use Rattle.hd_layer.specs.Edits.{is_edit};
 ghost use Rattle.hd_retained.specs.Edits.{IsRefusal};
-ghost use Rattle.hd_stack.specs.Stacks.{composed, layer_at, edited_at};
+ghost use Rattle.hd_stack.specs.Stacks.{composed_scene, layer_at, edited_at};
 ghost use Rattle.hd_session.specs.Rows.{row_paths};
-ghost use Rattle.hd_session.specs.Touched.{AreTouchedBefore, AreTouchedAfter};
+ghost use Rattle.hd_session.specs.inner.Touched.{AreTouchedBefore, AreTouchedAfter};
 
 use crate::rows::update_all;
 use hd_layer::Edit;
@@ -64,9 +64,9 @@ pub(crate) fn change(
 ) -> Result<(), EditFault>
     requires below { current < length stack.old.layers }
     requires formed { IsTrue (is_edit edit.now) }
-    requires rows { set.keys rows.old ≡ row_paths (composed stack.old.layers) }
+    requires rows { set.keys rows.old ≡ row_paths (composed_scene stack.old.layers) }
     ensures done { OnOk result (edited_at stack.old.layers current edit.now ≡ Ok stack.new.layers) }
-    ensures rows { OnOk result (set.keys rows.new ≡ row_paths (composed stack.new.layers)) }
+    ensures rows { OnOk result (set.keys rows.new ≡ row_paths (composed_scene stack.new.layers)) }
     ensures refusal { IfErr result (IsRefusal (edited_at stack.old.layers current edit.now)) }
     ensures same_count { length stack.new.layers ≡ length stack.old.layers }
 {

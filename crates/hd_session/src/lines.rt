@@ -3,7 +3,7 @@
 ghost use Rattle.std.specs.Prelude.{◌≡◌, IfOk, OnOk, OnErr};
 ghost use Rattle.hd_io.specs.Causes.{HasCause};
 ghost use Rattle.hd_io.specs.Writing.{with_line, CutLine};
-ghost use Rattle.hd_scene.specs.Scenes.{raised};
+ghost use Rattle.hd_scene.specs.Scenes.{saturating_succ};
 ghost use Rattle.hd_session.specs.Steps.{commit_line};
 
 use hd_io::{OutsideFault, Sink, write_line};
@@ -29,10 +29,10 @@ pub(crate) fn commit<O: Sink>(
     alloc: Global,
     out: &mut O,
 ) -> Result<(), OutsideFault>
-    ensures counted { commits.new ≡ raised commits.old }
-    ensures written { OnOk result (O.held out.new ≡ with_line (commit_line (raised commits.old) rows) (O.held out.old)) }
-    ensures cut { OnErr result (CutLine (commit_line (raised commits.old) rows) (O.held out.old) (O.held out.new)) }
-    ensures cause { HasCause (O.faults out.old) (O.faults out.new) result }
+    ensures counted { commits.new ≡ saturating_succ commits.old }
+    ensures written { OnOk result ((O.state out.new).text ≡ with_line (commit_line (saturating_succ commits.old) rows) (O.state out.old).text) }
+    ensures cut { OnErr result (CutLine (commit_line (saturating_succ commits.old) rows) (O.state out.old).text (O.state out.new).text) }
+    ensures cause { HasCause (O.state out.old).faults (O.state out.new).faults result }
 {
     *commits = commits.saturating_add(1);
     let line = commit_line(alloc, *commits, rows)?;

@@ -3,7 +3,7 @@
 ghost use Rattle.std.specs.Prelude.{◌≡◌, ◌∷◌, [], IfOk, OnOk};
 ghost use Rattle.std.specs.BTreeSet as set;
 ghost use Rattle.hd_path.specs.Paths.{path_cmp};
-ghost use Rattle.hd_stack.specs.Stacks.{composed};
+ghost use Rattle.hd_stack.specs.Stacks.{composed_scene};
 ghost use Rattle.hd_session.specs.Rows.{has_row, is_row, row_paths, IsUpdated};
 
 use hd_path::Path;
@@ -63,7 +63,7 @@ pub(crate) fn update_all(
 
 /// The paths of all rows. Each prim of each layer is looked at.
 pub(crate) fn rows_of(alloc: Global, stack: &Stack) -> Result<BTreeSet<Path>, AllocError>
-    ensures { IfOk result (λ rows. set.keys rows ≡ row_paths (composed stack.now.layers)) }
+    ensures { IfOk result (λ rows. set.keys rows ≡ row_paths (composed_scene stack.now.layers)) }
 {
     let root = Path::root();
     let mut rows = BTreeSet::new(alloc);

@@ -1,13 +1,12 @@
 //! A session over a stack of layers.
 
 ghost use Rattle.std.specs.Prelude.{◌≡◌, ◌<◌, ◌≤◌, true, false, All, IfOk, OnOk, IfErr, OnErr, IsTrue, vec_len};
-ghost use Rattle.hd_io.specs.Acts.{outside};
 ghost use Rattle.hd_layer.specs.WellFormed.{is_layer};
 ghost use Rattle.hd_script.specs.WellFormed.{is_command};
 ghost use Rattle.hd_session.specs.Answers.{Does, Refuses};
 ghost use Rattle.hd_session.specs.declared.refusal.Refusal.TheVariants.{Script};
 ghost use Rattle.hd_session.specs.declared.refusal.ScriptWhy.TheVariants.{NoLayer};
-ghost use Rattle.hd_session.specs.States.{opened};
+ghost use Rattle.hd_session.specs.States.{opening_state};
 ghost use Rattle.hd_session.specs.Steps.{step, finish};
 
 use crate::changes::change;
@@ -50,12 +49,12 @@ impl Model for Session {
 
 impl Session {
     /// A session over layers that were read, from one to eight, of which the first is the strongest. Edits change that
-    /// one until another is chosen. The call fails for want of memory alone.
+    /// one until another is chosen. The call fails only when memory runs out.
     pub fn open(alloc: Global, layers: Vec<LayerSpec>) -> Result<Session, AllocError>
         requires some { 1 ≤ vec_len layers }
         requires few { vec_len layers ≤ 8 }
         requires formed { All (λ layer. IsTrue (is_layer layer)) layers.items }
-        ensures { IfOk result (λ session. session ≡ record { state = opened layers.items; is_spent = false }) }
+        ensures { IfOk result (λ session. session ≡ record { state = opening_state layers.items; is_spent = false }) }
     {
         let stack = Stack::new(alloc, layers)?;
         let rows = rows_of(alloc, &stack)?;
@@ -73,7 +72,7 @@ impl Session {
     ///
     /// # Errors
     ///
-    /// The refusal of the command in the state that it meets, where nothing is written, or a fault of the sink, or want
+    /// The refusal of the command in the state that it meets, where nothing is written, or a fault of the sink, or out
     /// of memory. The session is spent then.
     pub fn command<K: Rack, O: Sink>(
         &mut self,
@@ -85,13 +84,13 @@ impl Session {
         requires unspent { self.old.is_spent ≡ false }
         requires formed { IsTrue (is_command command.now) }
         ensures done { OnOk result (Does (step self.old.state command.now) self.new.state
-            (outside (K.held rack.old) (K.faults rack.old) (O.held out.old) (O.faults out.old))
-            (outside (K.held rack.new) (K.faults rack.new) (O.held out.new) (O.faults out.new))) }
+            (record { rack = K.state rack.old; sink = O.state out.old })
+            (record { rack = K.state rack.new; sink = O.state out.new })) }
         ensures unspent { OnOk result (self.new.is_spent ≡ false) }
         ensures refusal { IfErr result (Refuses (step self.old.state command.now)
-            (outside (K.held rack.old) (K.faults rack.old) (O.held out.old) (O.faults out.old))
-            (outside (K.held rack.new) (K.faults rack.new) (O.held out.new) (O.faults out.new))) }
-        ensures open { K.is_open rack.new ≡ K.is_open rack.old }
+            (record { rack = K.state rack.old; sink = O.state out.old })
+            (record { rack = K.state rack.new; sink = O.state out.new })) }
+        ensures rack { K.state rack.new ≡ K.state rack.old }
         ensures spent { OnErr result (self.new.is_spent ≡ true) }
     {
         self.is_spent = true;
@@ -122,13 +121,13 @@ impl Session {
     pub fn finish<K: Rack, O: Sink>(&mut self, rack: &mut K, out: &mut O) -> Result<(), Refusal>
         requires unspent { self.old.is_spent ≡ false }
         ensures done { OnOk result (Does (finish self.old.state) self.new.state
-            (outside (K.held rack.old) (K.faults rack.old) (O.held out.old) (O.faults out.old))
-            (outside (K.held rack.new) (K.faults rack.new) (O.held out.new) (O.faults out.new))) }
+            (record { rack = K.state rack.old; sink = O.state out.old })
+            (record { rack = K.state rack.new; sink = O.state out.new })) }
         ensures unspent { OnOk result (self.new.is_spent ≡ false) }
         ensures refusal { IfErr result (Refuses (finish self.old.state)
-            (outside (K.held rack.old) (K.faults rack.old) (O.held out.old) (O.faults out.old))
-            (outside (K.held rack.new) (K.faults rack.new) (O.held out.new) (O.faults out.new))) }
-        ensures open { K.is_open rack.new ≡ K.is_open rack.old }
+            (record { rack = K.state rack.old; sink = O.state out.old })
+            (record { rack = K.state rack.new; sink = O.state out.new })) }
+        ensures rack { K.state rack.new ≡ K.state rack.old }
         ensures spent { OnErr result (self.new.is_spent ≡ true) }
     {
         Ok(())

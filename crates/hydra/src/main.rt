@@ -7,7 +7,8 @@ ghost use Rattle.std.specs.Process.{exit_status};
 ghost use Rattle.std.specs.Vec.Iter.{into_iter_items};
 ghost use Rattle.hd_app.specs.Commands.{command};
 ghost use Rattle.hd_app.specs.FaultLines.{number_of};
-ghost use Rattle.hd_app.specs.Runs.{ShelfState, IsAnswerTo};
+ghost use Rattle.hd_app.specs.Runs.{IsAnswerTo};
+ghost use Rattle.hd_io.specs.Shelf.{ShelfState};
 
 use hd_app::{Status, top_plain};
 use hd_io::{FileRack, FileShelf, OutSink};
@@ -17,11 +18,8 @@ use std::io::ErrorKind;
 use std::process::ExitCode;
 use std::{env, io};
 
-#[cfg(test)]
-mod tests;
-
-/// The words behind the program's name.
-fn behind_name(alloc: Global, args: Args) -> Result<Vec<String>, AllocError>
+/// The words after the program's name.
+fn after_name(alloc: Global, args: Args) -> Result<Vec<String>, AllocError>
     ensures { IfOk result (λ words. words.items ≡ drop 1 (into_iter_items args)) }
 {
     let mut args = args;
@@ -41,7 +39,7 @@ fn words_of(alloc: Global, args: io::Result<Args>) -> Result<Vec<String>, AllocE
     ensures no_memory { IfErr args (λ error. error_kind error ≡ ErrorKind.OutOfMemory → IsErr result) }
 {
     match args {
-        Ok(args) => behind_name(alloc, args),
+        Ok(args) => after_name(alloc, args),
         Err(error) if error.kind() == ErrorKind::OutOfMemory => Err(AllocError),
         Err(_) => Ok(Vec::new(alloc)),
     }

@@ -1,5 +1,5 @@
-//! The text of a case. Bytes that a file can't show, and long texts, stand between `«` and `»`: `«0d»` is the byte of
-//! that hexadecimal number, and `«3×[»` is `[[[`. In what is repeated `№` stands for the number of the repetition.
+//! The text of a case. Bytes that a file can't show, and long texts, are between `«` and `»`: `«0d»` is the byte of
+//! that hexadecimal number, and `«3×[»` is `[[[`. In what is repeated `№` is for the number of the repetition.
 
 use std::alloc::{AllocError, Global};
 
@@ -17,7 +17,7 @@ fn add_times(to: &mut Vec<u8>, alloc: Global, count: u32, part: &str) -> Result<
     Ok(())
 }
 
-/// Adds what stands between `«` and `»`.
+/// Adds what is between `«` and `»`.
 fn add_short(to: &mut Vec<u8>, alloc: Global, short: &str) -> Result<(), AllocError> {
     match short.split_once('×') {
         Some((count, part)) => add_times(to, alloc, count.parse().unwrap_or(0), part),
@@ -25,7 +25,7 @@ fn add_short(to: &mut Vec<u8>, alloc: Global, short: &str) -> Result<(), AllocEr
     }
 }
 
-/// The bytes that the text stands for.
+/// The bytes that the text is for.
 pub fn expanded(alloc: Global, text: &str) -> Result<Vec<u8>, AllocError> {
     let mut all = Vec::new(alloc);
     for part in text.split('«') {

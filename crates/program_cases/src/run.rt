@@ -5,7 +5,7 @@ ghost use Rattle.std.specs.Prelude.{◌≡◌, ◌≢◌, false, All, AllPairs, 
 use crate::case::{Case, bytes_of, plan_of};
 use crate::report::{push_files, push_lines};
 use hd_app::top_plain;
-use hd_io::{MemoryRack, MemoryShelf, MemorySink};
+use hd_io::{MemoryFile, MemoryRack, MemoryShelf, MemorySink};
 use std::alloc::{AllocError, Global};
 use std::{fs, io};
 
@@ -17,37 +17,34 @@ fn words_of(alloc: Global, words: &str) -> Result<Vec<String>, AllocError> {
     Ok(all)
 }
 
-fn is_among(files: &[(String, Vec<u8>)], name: &str) -> bool
-    ensures { result ≡ false → All (λ file. string_bytes file.0 ≢ name.now) files.now }
+fn is_among(files: &[MemoryFile], name: &str) -> bool
+    ensures { result ≡ false → All (λ file. string_bytes file.name ≢ name.now) files.now }
 {
-    files.iter().any(|file| file.0.as_str() == name)
+    files.iter().any(|file| file.name.as_str() == name)
 }
 
 /// Adds a file, but where there is one of its name.
 fn put(
     alloc: Global,
-    files: &mut Vec<(String, Vec<u8>)>,
+    files: &mut Vec<MemoryFile>,
     name: &str,
     bytes: Vec<u8>,
 ) -> Result<(), AllocError>
-    requires { AllPairs (λ one other. string_bytes one.0 ≢ string_bytes other.0) files.old.items }
-    ensures { AllPairs (λ one other. string_bytes one.0 ≢ string_bytes other.0) files.new.items }
+    requires { AllPairs (λ one other. string_bytes one.name ≢ string_bytes other.name) files.old.items }
+    ensures { AllPairs (λ one other. string_bytes one.name ≢ string_bytes other.name) files.new.items }
 {
     if is_among(files, name) {
         return Ok(());
     }
-    files.push((String::from_str(alloc, name)?, bytes))?;
+    let name = String::from_str(alloc, name)?;
+    files.push(MemoryFile { name, bytes })?;
     Ok(())
 }
 
 /// Adds the file of the folder that has this name, if there is one.
-fn put_named(
-    rt: HostRuntime,
-    files: &mut Vec<(String, Vec<u8>)>,
-    name: &str,
-) -> Result<(), AllocError>
-    requires { AllPairs (λ one other. string_bytes one.0 ≢ string_bytes other.0) files.old.items }
-    ensures { AllPairs (λ one other. string_bytes one.0 ≢ string_bytes other.0) files.new.items }
+fn put_named(rt: HostRuntime, files: &mut Vec<MemoryFile>, name: &str) -> Result<(), AllocError>
+    requires { AllPairs (λ one other. string_bytes one.name ≢ string_bytes other.name) files.old.items }
+    ensures { AllPairs (λ one other. string_bytes one.name ≢ string_bytes other.name) files.new.items }
 {
     match fs::read(&rt, name) {
         Ok(bytes) => put(rt.alloc(), files, name, bytes),
@@ -56,15 +53,12 @@ fn put_named(
 }
 
 /// The files of the folder that the words name, and the text of the case under the name `-`.
-fn files_of(
-    rt: HostRuntime,
-    words: &[String],
-    text: &str,
-) -> Result<Vec<(String, Vec<u8>)>, AllocError>
-    ensures { IfOk result (λ files. AllPairs (λ one other. string_bytes one.0 ≢ string_bytes other.0) files.items) }
+fn files_of(rt: HostRuntime, words: &[String], text: &str) -> Result<Vec<MemoryFile>, AllocError>
+    ensures { IfOk result (λ files. AllPairs (λ one other. string_bytes one.name ≢ string_bytes other.name) files.items) }
 {
     let alloc = rt.alloc();
-    let mut files = vec![in alloc; (String::from_str(alloc, "-")?, bytes_of(alloc, text)?)]?;
+    let mut files = Vec::new(alloc);
+    put(alloc, &mut files, "-", bytes_of(alloc, text)?)?;
     for word in words {
         put_named(rt, &mut files, word.as_str())?;
     }

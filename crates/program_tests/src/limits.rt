@@ -3,7 +3,7 @@
 ghost use Rattle.std.specs.Prelude.{◌≡◌, ◌≢◌, false, All, AllPairs, string_bytes};
 
 use hd_app::top_plain;
-use hd_io::{MemoryRack, MemoryShelf, MemorySink};
+use hd_io::{MemoryFile, MemoryRack, MemoryShelf, MemorySink};
 use std::alloc::{AllocError, Global};
 
 /// More than any call moves here.
@@ -12,29 +12,28 @@ const AMPLE: usize = 1 << 24;
 /// The bytes that a file may have.
 const MOST_BYTES: usize = 1_048_576;
 
-fn is_among(files: &[(String, Vec<u8>)], name: &str) -> bool
-    ensures { result ≡ false → All (λ file. string_bytes file.0 ≢ name.now) files.now }
+fn is_among(files: &[MemoryFile], name: &str) -> bool
+    ensures { result ≡ false → All (λ file. string_bytes file.name ≢ name.now) files.now }
 {
-    files.iter().any(|file| file.0.as_str() == name)
+    files.iter().any(|file| file.name.as_str() == name)
 }
 
 /// Adds a file, but where there is one of its name.
 fn put(
     alloc: Global,
-    files: &mut Vec<(String, Vec<u8>)>,
+    files: &mut Vec<MemoryFile>,
     name: &str,
     text: &[u8],
 ) -> Result<(), AllocError>
-    requires { AllPairs (λ one other. string_bytes one.0 ≢ string_bytes other.0) files.old.items }
-    ensures { AllPairs (λ one other. string_bytes one.0 ≢ string_bytes other.0) files.new.items }
+    requires { AllPairs (λ one other. string_bytes one.name ≢ string_bytes other.name) files.old.items }
+    ensures { AllPairs (λ one other. string_bytes one.name ≢ string_bytes other.name) files.new.items }
 {
     if is_among(files, name) {
         return Ok(());
     }
-    files.push((
-        String::from_str(alloc, name)?,
-        Vec::from_slice(alloc, text)?,
-    ))?;
+    let name = String::from_str(alloc, name)?;
+    let bytes = Vec::from_slice(alloc, text)?;
+    files.push(MemoryFile { name, bytes })?;
     Ok(())
 }
 

@@ -46,7 +46,7 @@ fn first_prim(layer: &LayerSpec) -> Option<&PrimSpec>
     layer.prims.items().first()
 }
 
-/// Whether this op stands at the name of an op.
+/// Whether this op is at the name of an op.
 fn has_op(alloc: Global, values: &Container, name: &str, op: Op) -> Result<bool, AllocError> {
     match values.get(&Locator::of(alloc, &["xform", "ops", name])?) {
         Some(Source::Leaf(Value::Op(found))) => Ok(*found == op),

@@ -4,7 +4,7 @@ use crate::across;
 use hd_usda::{LayerSpec, PrimSpec, Property, RawValue, read_layer};
 use std::alloc::{AllocError, Global};
 
-/// Whether the only property of a prim has the numbers that stand in the text.
+/// Whether the only property of a prim has the numbers that are in the text.
 fn has_counts(properties: &[Property]) -> Result<bool, AllocError> {
     match properties {
         [property] => match across(property.copy()?).value.copy()? {
@@ -15,7 +15,7 @@ fn has_counts(properties: &[Property]) -> Result<bool, AllocError> {
     }
 }
 
-/// Whether a copy of a prim has the type and the numbers that stand in the text.
+/// Whether a copy of a prim has the type and the numbers that are in the text.
 fn prim_is_copied(prim: &PrimSpec) -> Result<bool, AllocError> {
     let copied = across(prim.copy()?);
     Ok(copied.kind.text() == "Mesh" && has_counts(copied.properties.items())?)

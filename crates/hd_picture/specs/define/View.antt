@@ -1,6 +1,6 @@
 -- How a picture shows the world: the eye looks along falling z, x is right, y is up, and one unit is one pixel.
 -- Points of the picture are doubled, so that the centers of pixels are whole numbers. The middle of the picture is (0, 0).
-use Rattle.std.specs.Prelude.{ℕ, ◌+◌, ◌*◌, pos, ◌-ℤ◌, ◌*ℤ◌, ℤ}
+use Rattle.std.specs.Prelude.{ℕ, ◌+◌, ◌*◌, pos, ◌-ℤ◌, ◌*ℤ◌}
 use Rattle.hd_num.specs.declared.vector.Vec3.{Vec3}
 use Rattle.hd_picture.specs.declared.define.view.ScreenPoint.{ScreenPoint}
 

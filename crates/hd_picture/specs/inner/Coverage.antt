@@ -1,5 +1,5 @@
 -- Points and weights whose edge functions fit 64 bits, and the weights of a counter-clockwise triangle.
-use Rattle.std.specs.Prelude.{pos, ◌-ℤ◌, ℤ, ◌^◌, ◌≤ℤ◌, ◌≡◌, true, ◌<ℤ◌}
+use Rattle.std.specs.Prelude.{pos, ◌-ℤ◌, ◌^◌, ◌≤ℤ◌, ◌≡◌, true, ◌<ℤ◌}
 use Rattle.hd_picture.specs.declared.define.coverage.Weights.{Weights}
 use Rattle.hd_picture.specs.declared.define.view.ScreenPoint.{ScreenPoint}
 use Rattle.hd_picture.specs.declared.draws.WorldTri.{WorldTri}

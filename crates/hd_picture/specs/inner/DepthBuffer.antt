@@ -5,7 +5,6 @@ use Rattle.hd_num.specs.declared.vector.Vec3.{Vec3}
 use Rattle.hd_picture.specs.declared.define.pixels.Fragment.{Fragment}
 use Rattle.hd_picture.specs.declared.draws.WorldTri.{WorldTri}
 use Rattle.hd_picture.specs.declared.raster.window.Window.{Window}
-use Rattle.hd_picture.specs.define.Depth.{depth}
 use Rattle.hd_picture.specs.define.Pixels.{fragment, nearest, black}
 use Rattle.hd_picture.specs.inner.Window.{tile_pixel_center}
 

@@ -8,13 +8,10 @@ use Rattle.hd_picture.specs.declared.raster.depth_fraction.DepthFraction.{DepthF
 use Rattle.hd_picture.specs.declared.raster.edge_stepping.EdgeValues.{EdgeValues}
 use Rattle.hd_picture.specs.declared.raster.window.Window.{Window}
 use Rattle.hd_picture.specs.Limits.{IsWithin}
-use Rattle.hd_picture.specs.define.Coverage.{weights, screen_weights}
-use Rattle.hd_picture.specs.define.Depth.{depth}
-use Rattle.hd_picture.specs.define.Pixels.{nearest}
+use Rattle.hd_picture.specs.define.Coverage.{screen_weights}
 use Rattle.hd_picture.specs.inner.Coverage.{IsSmall}
 use Rattle.hd_picture.specs.inner.Depth.{depth_sum}
 use Rattle.hd_picture.specs.inner.DepthFraction.{IsRemainder, numerator}
-use Rattle.hd_picture.specs.inner.Pixels.{nearer}
 use Rattle.hd_picture.specs.inner.Window.{pixel_center_at}
 
 -- the point at an offset

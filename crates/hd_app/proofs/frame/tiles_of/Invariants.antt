@@ -1,7 +1,7 @@
-use Rattle.std.proofs.Common.{◌≡◌}
-use Rattle.std.specs.List.{range_with_len, flat_map}
+use Rattle.std.proofs.Common.{◌≡◌, map}
+use Rattle.std.specs.List.{range_with_len}
 use Rattle.hd_picture.specs.raster.Tiles.{tile}
 use Rattle.hd_app.proofs.frame.tiles_of.Given as goal
 
 abbrev pub invariant-tiles : goal.invariant-tiles
-invariant-tiles l = l.tiles.items ≡ flat_map (tile l.draws) (range_with_len 0 l.n)
+invariant-tiles l = l.tiles.items ≡ map (tile l.draws) (range_with_len 0 l.n)

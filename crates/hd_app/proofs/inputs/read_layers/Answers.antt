@@ -2,7 +2,6 @@ use Rattle.std.proofs.Common.{map, string_bytes, arith, ◌+◌, ◌∙◌}
 use Rattle.std.proofs.lemmas.Grind.{common_steps}
 use Rattle.std.proofs.lemmas.Result.{err_from_is_err_and}
 use Rattle.hd_app.specs.Outcomes.{byte_limit}
-use Rattle.hd_app.specs.Runs.{shelf_state}
 use Rattle.hd_app.proofs.InputLemmas.{named_at, told_one_more, told_one_more_spells, all_formed, within_joined, refused_among}
 use Rattle.hd_app.proofs.inputs.read_layers.Goals as goal
 
@@ -10,9 +9,9 @@ pub returns-in_err-layer-clause-refusal : goal.returns-in_err-layer-clause-refus
 returns-in_err-layer-clause-refusal g c =
     let p = err_from_is_err_and c.from_residual.result c.from_residual.ensures.1 in
     rw (p.1, p.2) (refused_among (map string_bytes c.args.names.now) c.loop-name.name-index c.deref.result.now
-    (shelf_state (g.S.Shelf.files c.args.shelf.now) (g.S.Shelf.opened c.args.shelf.now) (g.S.Shelf.faults c.args.shelf.now) (g.S.Shelf.failed c.args.shelf.now) (g.S.Shelf.taken c.args.shelf.now))
-    (shelf_state (g.S.Shelf.files c.loop-name.shelf) (g.S.Shelf.opened c.loop-name.shelf) (g.S.Shelf.faults c.loop-name.shelf) (g.S.Shelf.failed c.loop-name.shelf) (g.S.Shelf.taken c.loop-name.shelf))
-    (shelf_state (g.S.Shelf.files c.read_layer.new.shelf) (g.S.Shelf.opened c.read_layer.new.shelf) (g.S.Shelf.faults c.read_layer.new.shelf) (g.S.Shelf.failed c.read_layer.new.shelf) (g.S.Shelf.taken c.read_layer.new.shelf)) c.in_err-layer.field-0.0
+    (g.S.Shelf.state c.args.shelf.now)
+    (g.S.Shelf.state c.loop-name.shelf)
+    (g.S.Shelf.state c.read_layer.new.shelf) c.in_err-layer.field-0.0
     (named_at string_bytes c.args.names.now c.loop-name.name-index c.name-item.result c.deref.result.now c.loop-name-test.true c.name-item.is c.deref.ensures)
     c.loop-name.invariant.files c.loop-name.invariant.faults c.loop-name.invariant.spelled c.in_err-layer.ensures.refusal)
 

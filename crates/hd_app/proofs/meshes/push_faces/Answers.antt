@@ -14,8 +14,8 @@ loop-count-preserved c =
     let left = takes_next c.args.counts.now c.loop-count.count-index (to_z w64 (of_z w64 (get_or c.args.counts.now c.loop-count.count-index (pos 0)))) c.loop-count.rest.now c.loop-count-test.true same c.loop-count.invariant.left in
     let next = faces_next c.args.counts.now c.loop-count.count-index (to_z w64 (of_z w64 (get_or c.args.counts.now c.loop-count.count-index (pos 0)))) c.loop-count.rest.now c.loop-count-test.true same in
     record {
-      left = rw c.split_face.ensures.behind left;
+      left = rw c.split_face.ensures.after left;
       drawn =
-          rw (c.in_ok-push_face.ensures, c.split_face.ensures.face, c.split_face.ensures.behind, append_assoc)
+          rw (c.in_ok-push_face.ensures, c.split_face.ensures.face, c.split_face.ensures.after, append_assoc)
           (ap (λ pieces. c.loop-count.tris.items ++ flat_map (face_triangles c.args.points.now) pieces) (sym next) ∙ c.loop-count.invariant.drawn);
     }

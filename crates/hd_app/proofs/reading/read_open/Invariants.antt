@@ -7,12 +7,12 @@ use Rattle.hd_app.proofs.reading.read_open.Given as goal
 
 abbrev pub invariant-reading : goal.invariant-reading
 invariant-reading g l = record {
-  files : g.S.Shelf.files l.shelf ≡ g.S.Shelf.files l.fn.shelf;
-  opened : g.S.Shelf.opened l.shelf ≡ g.S.Shelf.opened l.fn.shelf;
-  faults : g.S.Shelf.faults l.shelf ≡ g.S.Shelf.faults l.fn.shelf;
-  taken : g.S.Shelf.taken l.shelf ≡ vec_len l.bytes;
+  files : (g.S.Shelf.state l.shelf).files ≡ (g.S.Shelf.state l.fn.shelf).files;
+  opened : (g.S.Shelf.state l.shelf).opened ≡ (g.S.Shelf.state l.fn.shelf).opened;
+  faults : (g.S.Shelf.state l.shelf).faults ≡ (g.S.Shelf.state l.fn.shelf).faults;
+  taken : (g.S.Shelf.state l.shelf).taken ≡ vec_len l.bytes;
   within : vec_len l.bytes ≤ byte_limit + 1;
-  front : IfSome (g.S.Shelf.files l.fn.shelf) (λ map. IsSomeAnd (open_bytes map (g.S.Shelf.opened l.fn.shelf)) (IsFront l.bytes.items));
+  front : IfSome (g.S.Shelf.state l.fn.shelf).files (λ map. IsSomeAnd (open_bytes map (g.S.Shelf.state l.fn.shelf).opened) (IsFront l.bytes.items));
 }
 
 abbrev pub decreases-reading : goal.decreases-reading

@@ -1,6 +1,6 @@
 use Rattle.hd_app.specs.Commands.{draw}
 use Rattle.hd_app.proofs.InputLemmas.{layer_refuses}
-use Rattle.hd_app.proofs.RunLemmas.{drawn_runs, refused_runs, refused_not_done, files_not_done}
+use Rattle.hd_app.proofs.RunLemmas.{drawn_runs, refused_runs}
 use Rattle.hd_app.proofs.top.draw.Goals as goal
 
 pub returns-in-Ok-clause-runs : goal.returns-in-Ok-clause-runs
@@ -9,10 +9,4 @@ returns-in-Ok-clause-runs g c = drawn_runs c.args.layer.now c.args.name.now c.in
 pub returns-in-Err-clause-runs : goal.returns-in-Err-clause-runs
 returns-in-Err-clause-runs g c =
     refused_runs (draw c.args.layer.now c.args.name.now) c.in-Err.refusal _ _ _ _ _
-    (layer_refuses c.args.layer.now c.args.name.now _ _ c.in-Err.refusal c.in-Err.ensures.refusal) (c.refuse.ensures.ends _ _)
-
-pub returns-in-Err-clause-closed : goal.returns-in-Err-clause-closed
-returns-in-Err-clause-closed g c = λ done. absurd (
-    refused_not_done c.in-Err.refusal _ _ _
-    (files_not_done (draw c.args.layer.now c.args.name.now) _ _ c.in-Err.refusal (layer_refuses c.args.layer.now c.args.name.now _ _ c.in-Err.refusal c.in-Err.ensures.refusal))
-    (c.refuse.ensures.ends (g.R.Rack.held c.args.rack.now) (g.R.Rack.faults c.args.rack.now)) done)
+    (layer_refuses c.args.layer.now c.args.name.now _ _ c.in-Err.refusal c.in-Err.ensures.refusal) (c.refuse.ensures.ends _)

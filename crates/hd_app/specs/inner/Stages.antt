@@ -1,19 +1,19 @@
--- How the stages of a run end: as they were to, or broken off.
+-- How the stages of a run end: as they were to, or interrupted.
 use Rattle.std.specs.Prelude.{◌≡◌, ◌⊎◌, ℕ, List, Option, IfSome, IsSomeAnd}
 use Rattle.hd_io.specs.declared.fault.OutsideFault.{OutsideFault}
 use Rattle.hd_io.specs.declared.fault.OutsideFault.TheVariants as faults
-use Rattle.hd_io.specs.Acts.{Outside, WroteCut, NoFault}
-use Rattle.hd_io.specs.Causes.{Rose}
+use Rattle.hd_io.specs.Acts.{Outside, WroteCut, NoFault, WriteFailed}
 use Rattle.hd_app.specs.declared.status.Status.{Status}
 use Rattle.hd_app.specs.declared.status.Status.TheVariants.{ReadFault, WriteFault, NoMemory}
 use Rattle.hd_app.specs.Commands.{Program}
 use Rattle.hd_app.specs.Endings.{EndsWhole, IsReadFault}
 use Rattle.hd_app.specs.Outcomes.{outcome_of}
-use Rattle.hd_app.specs.Refusals.{FailedAt}
-use Rattle.hd_app.specs.Refusing.{Outcome, refused}
-use Rattle.hd_app.specs.Runs.{ShelfState, IsReached, IsAnswerTo}
+use Rattle.hd_app.specs.inner.Refusals.{FailedAt}
+use Rattle.hd_app.specs.Refusing.{Outcome, refusal_outcome}
+use Rattle.hd_io.specs.Shelf.{ShelfState}
+use Rattle.hd_app.specs.Runs.{IsReached, IsAnswerTo}
 
--- how a run ends whose write was broken off
+-- how a run ends whose write was interrupted
 abbrev pub status_of_write : OutsideFault → Status
 status_of_write faults.Failed = WriteFault
 status_of_write faults.NoMemory = NoMemory
@@ -22,7 +22,7 @@ status_of_write faults.NoMemory = NoMemory
 pub record BreaksOff (outcome : Outcome) (before now : Outside) (status : Status) : Type 0 where
   pub ending : status ≡ WriteFault
   pub written : WroteCut outcome.acts before now
-  pub faults : Rose before.rack_faults now.rack_faults ⊎ Rose before.sink_faults now.sink_faults
+  pub faults : WriteFailed before now
 
 -- memory ran out
 pub record RunsOut (outcome : Outcome) (before now : Outside) (status : Status) : Type 0 where
@@ -41,14 +41,14 @@ pub record RunsByFiles (program : Option Program) (shelf_before shelf_now : Shel
   pub faults : shelf_now.faults ≡ shelf_before.faults
   pub answer : IsAnswerTo program shelf_now status
   pub read : IsReadFault status → ⊥
-  pub write : status ≡ WriteFault → Rose before.rack_faults now.rack_faults ⊎ Rose before.sink_faults now.sink_faults
+  pub write : status ≡ WriteFault → WriteFailed before now
 
 -- the shelf failed at a file, and the run ended by telling that
 pub record RunsIntoFault (program : Option Program) (shelf_before shelf_now : ShelfState) (before now : Outside) (status : Status) : Type 0 where
   pub file : List ℕ
   pub reached : IsSomeAnd program (λ p. IsReached p shelf_before.files file)
   pub failed : FailedAt file shelf_before shelf_now
-  pub ends : Ends (refused (ReadFault file)) before now status
+  pub ends : Ends (refusal_outcome (ReadFault file)) before now status
 
 abbrev pub Runs : Option Program → (shelf_before shelf_now : ShelfState) → (before now : Outside) → Status → Type 0
 Runs program shelf_before shelf_now before now status =

@@ -1,7 +1,7 @@
 use Rattle.std.proofs.Common.{◌≡◌, ◌++◌, drop}
 use Rattle.std.specs.Vec.Iter.{into_iter_items}
-use Rattle.hydra.proofs.behind_name.Given as goal
+use Rattle.hydra.proofs.after_name.Given as goal
 
--- the words so far, and behind them those that are left
+-- the words so far, and after them those that are left
 abbrev pub invariant-loop-word : goal.invariant-loop-word
 invariant-loop-word l = l.words.items ++ into_iter_items l.word-iterator ≡ drop 1 (into_iter_items l.fn.args)

@@ -16,8 +16,9 @@ use Rattle.hd_layer.specs.declared.limits.Which.TheVariants.{Bytes}
 use Rattle.hd_layer.specs.Limits.{limit_of}
 use Rattle.hd_app.specs.Commands.{Program}
 use Rattle.hd_app.specs.Outcomes.{outcome_of, refusal_at, layer_in, layer_of_bytes, script_in, byte_limit}
-use Rattle.hd_app.specs.Refusing.{refused}
-use Rattle.hd_app.specs.Runs.{ShelfState, IsOpen, TookTooMuch, SpellLayers, IsReached, IsAnswerTo}
+use Rattle.hd_app.specs.Refusing.{refusal_outcome}
+use Rattle.hd_io.specs.Shelf.{ShelfState}
+use Rattle.hd_app.specs.Runs.{IsOpen, TookTooMuch, SpellLayers, IsReached, IsAnswerTo}
 
 -- the shelf failed at the file of this name
 pub record FailedAt (name : List ℕ) (before now : ShelfState) : Type 0 where
@@ -102,7 +103,7 @@ RefusesScript name before now WriteFault = ⊥
 pub record TellsRefusal (program : Program) (before now : ShelfState) (status : Status) : Type 0 where
   pub faults : now.faults ≡ before.faults
   pub answer : IsAnswerTo (Some program) now status
-  pub told : IfSome before.files (λ files. outcome_of files (Some program) ≡ refused status)
+  pub told : IfSome before.files (λ files. outcome_of files (Some program) ≡ refusal_outcome status)
 
 -- why the files of a command were not read
 abbrev pub RefusesFiles : Program → (before now : ShelfState) → Status → Type 0

@@ -1,10 +1,10 @@
-//! The program over the system's files.
+//! The call that the program makes, over the files of the system.
 
-use crate::run;
-use hd_io::{FileRack, FileShelf, OutsideFault, Shelf, write_file};
+use hd_app::{Status, top_plain};
+use hd_io::{FileRack, FileShelf, OutSink, OutsideFault, Shelf, write_file};
 use std::alloc::{AllocError, Global};
-use std::fs;
 use std::test::Fail;
+use std::{fs, io};
 
 /// Files, and their bytes.
 const FILES: &[(&str, &[u8])] = &[
@@ -34,6 +34,14 @@ fn words_of(alloc: Global, words: &[&str]) -> Result<Vec<String>, AllocError> {
         all.push(String::from_str(alloc, word)?)?;
     }
     Ok(all)
+}
+
+/// Does what the words say over the system's files and its standard output.
+fn run(rt: HostRuntime, words: &[String]) -> Status {
+    let mut shelf = FileShelf::new(rt, rt.alloc());
+    let mut rack = FileRack::new(rt);
+    let mut out = OutSink::new(io::writer(&rt));
+    top_plain(rt.alloc(), words, &mut shelf, &mut rack, &mut out)
 }
 
 fn write_files(rt: HostRuntime) -> Result<(), OutsideFault> {

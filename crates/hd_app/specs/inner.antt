@@ -1,0 +1,5 @@
+pub mod CommandWords
+pub mod Lines
+pub mod Reading
+pub mod Refusals
+pub mod Stages
