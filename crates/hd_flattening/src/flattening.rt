@@ -13,7 +13,7 @@ ghost use Rattle.hd_flattening.specs.contracts.flattening.Flattening.{the_row};
 use crate::flat::flat_prim;
 use crate::inherited::Inherited;
 use hd_path::{Path, Token};
-use hd_scene::{Prim, SceneIndex};
+use hd_scene::{Kept, Prim, SceneIndex};
 use hd_value::List;
 use std::alloc::{AllocError, Global};
 use std::marker::Model;
@@ -29,24 +29,37 @@ use std::marker::Model;
 #[derive(Drop)]
 pub struct Flattening<I> {
     input: I,
+
+    /// The input's scene when a prim was last asked for.
+    told: Kept,
+
     pulls: u64,
 }
 
 impl<I> Model for Flattening<I> {
     ghost use Rattle.std.specs.Prelude.{false};
-    ghost use Rattle.hd_scene.specs.Filters.{FilterState};
+    ghost use Rattle.hd_scene.specs.Filters.{FilterState, filter_code};
 
     ghost Value = { FilterState I };
 
-    ghost view = { λ filter. record { input = filter.input; told = filter.input; pulls = filter.pulls; spent = false } };
+    ghost coded = { filter_code I.code };
+
+    ghost view = { λ filter. record { input = filter.input; told = filter.told.scene; pulls = filter.pulls; spent = false } };
 }
 
 impl<I> Flattening<I> {
     /// A filter of an input, which takes no memory.
     pub fn new(input: I) -> Flattening<I>
-        ensures { result ≡ record { input = input; told = input; pulls = 0; spent = false } }
+    where
+        I: SceneIndex,
+        ensures { result ≡ record { input = input; told = I.scene input; pulls = 0; spent = false } }
     {
-        Flattening { input, pulls: 0 }
+        let told = Kept::of(&input);
+        Flattening {
+            input,
+            told,
+            pulls: 0,
+        }
     }
 
     /// The input.
@@ -58,7 +71,7 @@ impl<I> Flattening<I> {
 
     /// The input, to be changed. What is written to it changes nothing else of the filter.
     pub fn input_mut(&mut self) -> &mut I
-        ensures* writes_back { sem 𝓛 (Lends (the_row I.row) I.row self.entry result (λ w. record self.old { input = w; told = w })) }
+        ensures* writes_back { sem 𝓛 (Lends (the_row I.row) I.row self.entry result (λ w. record self.old { input = w })) }
         ensures value { result.now ≡ self.old.input }
     {
         &mut self.input
@@ -82,6 +95,7 @@ impl<I: SceneIndex> SceneIndex for Flattening<I> {
 
     fn prim(&mut self, alloc: Global, path: &Path) -> Result<Prim, AllocError> {
         self.pulls = self.pulls.saturating_add(1);
+        self.told = Kept::of(&self.input);
         prim_at(&mut self.input, alloc, path)
     }
 

@@ -13,10 +13,9 @@ use crate::marking::instanced_prim;
 use crate::table::{Table, instancers_of, listed_instancers, table_of};
 use hd_num::List;
 use hd_path::{Path, Token};
-use hd_scene::{Prim, SceneIndex};
+use hd_scene::{Kept, Prim, SceneIndex};
 use std::alloc::{AllocError, Global};
 use std::marker::Model;
-use std::snapshot::Snapshot;
 
 /// A filter that gives each prim the instancers that have a target at or above it.
 ///
@@ -26,11 +25,11 @@ use std::snapshot::Snapshot;
 /// It is in step where its input is in step, and each value of the input is one that layers author. What it keeps of the
 /// input is made again when a prim is asked for after the input was lent.
 #[derive(Drop)]
-pub struct Instancing<I: SceneIndex> {
+pub struct Instancing<I> {
     input: I,
 
-    /// The input of which the table is.
-    told: Snapshot<I>,
+    /// The input's scene of which the table is.
+    told: Kept,
 
     table: Table,
     pulls: u64,
@@ -39,34 +38,36 @@ pub struct Instancing<I: SceneIndex> {
     spent: bool,
 }
 
-impl<I: SceneIndex> Model for Instancing<I> {
-    ghost use Rattle.hd_scene.specs.Filters.{FilterState};
+impl<I> Model for Instancing<I> {
+    ghost use Rattle.hd_scene.specs.Filters.{FilterState, filter_code};
     ghost use Rattle.hd_instancing.specs.inner.Tables.{Holds};
     ghost use Rattle.std.specs.Prelude.{◌≡◌, false};
 
     ghost Value = { FilterState I };
 
-    ghost view = { λ filter. record { input = filter.input; told = filter.told.value; pulls = filter.pulls; spent = filter.spent } };
+    ghost coded = { filter_code I.code };
 
-    ghost invariant = { λ filter. filter.spent ≡ false → Holds (I.scene filter.told.value) filter.table };
+    ghost view = { λ filter. record { input = filter.input; told = filter.told.scene; pulls = filter.pulls; spent = filter.spent } };
+
+    ghost invariant = { λ filter. filter.spent ≡ false → Holds filter.told.scene filter.table };
 }
 
-impl<I: SceneIndex> Instancing<I> {
+impl<I> Instancing<I> {
     /// A filter of an input, each of whose prims is asked once.
     pub fn new(alloc: Global, input: I) -> Result<Instancing<I>, AllocError>
     where
-        I: Drop,
+        I: SceneIndex + Drop,
         requires { I.is_in_step input }
         ensures in_step { IfOk result (λ made. I.is_in_step made.input) }
         ensures scene { IfOk result (λ made. I.scene made.input ≡ I.scene input) }
         ensures origin { IfOk result (λ made. I.origin made.input ≡ I.origin input) }
-        ensures told { IfOk result (λ made. I.scene made.told ≡ I.scene input) }
+        ensures told { IfOk result (λ made. made.told ≡ I.scene input) }
         ensures spent { IfOk result (λ made. made.spent ≡ false) }
         ensures pulls { IfOk result (λ made. made.pulls ≡ 0) }
     {
         let mut input = input;
         let table = table_of(&mut input, alloc)?;
-        let told = Snapshot::of(&input);
+        let told = Kept::of(&input);
         Ok(Instancing {
             input,
             told,
@@ -85,7 +86,7 @@ impl<I: SceneIndex> Instancing<I> {
 
     /// The input, to be changed. What the filter keeps of it is made again later.
     pub fn input_mut(&mut self) -> &mut I
-        ensures* writes_back { sem 𝓛 (Lends (the_row I.row I.Origin.row I.SceneIndex) I.row self.entry result (λ w. record self.old { input = w; spent = true })) }
+        ensures* writes_back { sem 𝓛 (Lends (the_row I.row) I.row self.entry result (λ w. record self.old { input = w; spent = true })) }
         ensures value { result.now ≡ self.old.input }
     {
         self.spent = true;
@@ -102,7 +103,7 @@ impl<I: SceneIndex> SceneIndex for Instancing<I> {
 
     ghost origin = { λ x. I.origin x.input };
 
-    ghost is_in_step = { λ x. I.is_in_step x.input × SceneConforms is_authored (I.scene x.input) × (x.spent ≡ false → I.scene x.input ≡ I.scene x.told) };
+    ghost is_in_step = { λ x. I.is_in_step x.input × SceneConforms is_authored (I.scene x.input) × (x.spent ≡ false → I.scene x.input ≡ x.told) };
 
     ghost pulls = { λ x. x.pulls };
 
@@ -111,7 +112,7 @@ impl<I: SceneIndex> SceneIndex for Instancing<I> {
     fn prim(&mut self, alloc: Global, path: &Path) -> Result<Prim, AllocError> {
         self.pulls = self.pulls.saturating_add(1);
         mend(self.spent, &mut self.input, &mut self.table, alloc)?;
-        self.told = Snapshot::of(&self.input);
+        self.told = Kept::of(&self.input);
         self.spent = false;
         prim_at(&mut self.input, &self.table, alloc, path)
     }

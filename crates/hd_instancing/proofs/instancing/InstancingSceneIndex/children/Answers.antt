@@ -21,5 +21,5 @@ returns-clause-in_step g c =
     let same : scene c.self.inside.input ≡ scene c.args.self.now.input = ap (λ (v : FilterState _). scene v.input) c.self.view_is in (
       c.children.ensures.in_step,
       subst (SceneConforms is_authored) (sym (c.children.ensures.same_scene ∙ same)) c.requires.1,
-      λ fresh. c.children.ensures.same_scene ∙ same ∙ c.requires.2 (sym (ap (λ (v : FilterState _). v.spent) c.self.view_is) ∙ fresh) ∙ sym (ap (λ (v : FilterState _). scene v.told) c.self.view_is),
+      λ fresh. c.children.ensures.same_scene ∙ same ∙ c.requires.2 (sym (ap (λ (v : FilterState _). v.spent) c.self.view_is) ∙ fresh) ∙ sym (ap (λ (v : FilterState _). v.told) c.self.view_is),
     )

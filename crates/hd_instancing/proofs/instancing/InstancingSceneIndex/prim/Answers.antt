@@ -28,7 +28,7 @@ returns-clause-value g c =
     let same : scene c.self.inside.input ≡ scene c.args.self.now.input = ap (λ (v : FilterState _). scene v.input) c.self.view_is in
     let held : c.self.inside.spent ≡ false → Holds (scene c.self.inside.input) c.self.inside.table = λ fresh.
     subst (λ (s : Scene). Holds s c.self.inside.table)
-    (ap (λ (v : FilterState _). scene v.told) c.self.view_is ∙ sym (c.requires.2 (sym (ap (λ (v : FilterState _). v.spent) c.self.view_is) ∙ fresh)) ∙ sym same)
+    (ap (λ (v : FilterState _). v.told) c.self.view_is ∙ sym (c.requires.2 (sym (ap (λ (v : FilterState _). v.spent) c.self.view_is) ∙ fresh)) ∙ sym same)
     (c.self.invariant fresh) in
     let holds : Holds (scene c.mend.new.input) c.mend.new.table = subst (λ (s : Scene). Holds s c.mend.new.table) (sym c.mend.ensures.same_scene) (c.in_ok-mend.ensures.holds held) in
     IfOk-weaker c.prim_at.result _ _ (λ p h. h holds ∙ ap (λ (s : Scene). prim_of (get (instanced_scene s) c.args.path.now)) (c.mend.ensures.same_scene ∙ same)) c.prim_at.ensures.value
@@ -39,7 +39,7 @@ returns-clause-in_step g c =
     let same : scene c.self.inside.input ≡ scene c.args.self.now.input = ap (λ (v : FilterState _). scene v.input) c.self.view_is in (
       c.prim_at.ensures.in_step,
       subst (SceneConforms is_authored) (sym (c.prim_at.ensures.same_scene ∙ c.mend.ensures.same_scene ∙ same)) c.requires.1,
-      λ _. c.prim_at.ensures.same_scene ∙ ap scene (sym c.of.ensures),
+      λ _. c.prim_at.ensures.same_scene ∙ sym c.of.ensures,
     )
 
 pub invariant_of-self : goal.invariant_of-self
@@ -51,6 +51,6 @@ invariant_of-self-2 g c =
     let same : scene c.self.inside.input ≡ scene c.args.self.now.input = ap (λ (v : FilterState _). scene v.input) c.self.view_is in
     let held : c.self.inside.spent ≡ false → Holds (scene c.self.inside.input) c.self.inside.table = λ fresh.
     subst (λ (s : Scene). Holds s c.self.inside.table)
-    (ap (λ (v : FilterState _). scene v.told) c.self.view_is ∙ sym (c.requires.2 (sym (ap (λ (v : FilterState _). v.spent) c.self.view_is) ∙ fresh)) ∙ sym same)
+    (ap (λ (v : FilterState _). v.told) c.self.view_is ∙ sym (c.requires.2 (sym (ap (λ (v : FilterState _). v.spent) c.self.view_is) ∙ fresh)) ∙ sym same)
     (c.self.invariant fresh) in
-    λ _. subst (λ (s : Scene). Holds s c.mend.new.table) (sym c.mend.ensures.same_scene ∙ ap scene (sym c.of.ensures)) (c.in_ok-mend.ensures.holds held)
+    λ _. subst (λ (s : Scene). Holds s c.mend.new.table) (sym c.mend.ensures.same_scene ∙ sym c.of.ensures) (c.in_ok-mend.ensures.holds held)
