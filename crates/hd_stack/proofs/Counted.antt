@@ -28,10 +28,12 @@ use Rattle.hd_retained.specs.Layers.{LayerPrim, Layer, layer_of, prim_at_path, e
 use Rattle.hd_retained.specs.Edits.{State, has_parent, is_full_for, change_prim, with_value, without_value, is_moved_too_deep, moved_prim, edit_layer}
 use Rattle.hd_retained.proofs.Closed.{get-left}
 use Rattle.hd_merging.specs.Merges.{merged_entry, prims_at, merged_scene}
+use Rattle.hd_instancing.specs.Instanced.{instanced_entry, instanced_scene}
 use Rattle.hd_flattening.specs.Flattened.{flat_entry, flattened_scene}
 use Rattle.hd_stack.specs.Stacks.{composed_scene, AreSound}
 use Rattle.hd_stack.specs.Laws.{ScenesAreBounded}
-use Rattle.hd_stack.proofs.Layered.{layers_of, input_layer}
+use Rattle.hd_stack.specs.inner.Terminals.{layers_of}
+use Rattle.hd_stack.proofs.Layered.{input_layer}
 
 -- a map that is made of a list has at most as many entries
 len-from_entries : {K X : Type 0} {R : K → K → Ordering} → IsTotalOrder R → (es : List (K × X)) → len (from_entries {R = R} es) ≤ length es
@@ -166,8 +168,13 @@ paths_of_scenes (layer ∷ layers) sound =
     let rest = paths_of_scenes layers (λ k d l. sound (suc k) d (omega (arith, l))) in
     omega (arith, own, rest, len-scene layer, keys_length (scene_of layer), length-append (keys (scene_of layer)) (flat_map keys (map scene_of layers)))
 
+len-instanced : (scene : Scene) → len (instanced_scene scene) ≤ len scene
+unfolding instanced_scene
+len-instanced scene = len-mapped path_cmp_total (λ (e : List (List ℕ) × Entry). (e.0, instanced_entry scene e.0 e.1)) scene
+
 pub scenes_bounded : ScenesAreBounded
-scenes_bounded layers sound = omega (arith, len-flattened (composed_scene layers), len-merged (map scene_of layers), paths_of_scenes layers sound)
+scenes_bounded layers sound =
+    omega (arith, len-flattened (instanced_scene (composed_scene layers)), len-instanced (composed_scene layers), len-merged (map scene_of layers), paths_of_scenes layers sound)
 
 -- and so is the layer of an input of sound ones, and what an edit of it leaves
 pub few_input : (inputs : List State) (k : ℕ) (r : State) → k < length inputs → slice_get inputs k ≡ Some r → AreSound (layers_of inputs) → len r.layer ≤ limit_of Prims

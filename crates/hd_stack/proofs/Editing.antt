@@ -8,7 +8,8 @@ use Rattle.hd_retained.specs.Edits.{State, edit_layer, IsRefusal}
 use Rattle.hd_retained.specs.Layers.{Layer}
 use Rattle.hd_retained.specs.declared.fault.EditFault.{EditFault}
 use Rattle.hd_stack.specs.Stacks.{with_layer, edited_at}
-use Rattle.hd_stack.proofs.Layered.{layers_of, input_layer, layers_set}
+use Rattle.hd_stack.specs.inner.Terminals.{layers_of}
+use Rattle.hd_stack.proofs.Layered.{input_layer, layers_set}
 
 -- what the edit of the one layer answers
 at_input : (inputs : List State) (k : ℕ) (r : State) (edit : Edit) → slice_get inputs k ≡ Some r → edited_at (layers_of inputs) k edit ≡ with_layer (layers_of inputs) k (edit_layer r.layer edit)

@@ -14,7 +14,7 @@ use Rattle.hd_merging.specs.Merges.{first_kind, merged_entry, prims_at}
 use Rattle.hd_merging.specs.inner.MergedScenes.{get-merged}
 use Rattle.hd_stack.specs.Stacks.{composed_scene}
 use Rattle.hd_stack.specs.inner.Kinds.{is_named, kind_over}
-use Rattle.hd_stack.proofs.Layered.{layers_of}
+use Rattle.hd_stack.specs.inner.Terminals.{layers_of}
 use Rattle.hd_path.specs.Paths.{Path}
 use Rattle.hd_path.specs.Names.{Name}
 

@@ -1,5 +1,5 @@
 -- The inputs of a terminal, and their layers.
-use Rattle.std.proofs.Common.{◌≡◌, ℕ, Bool, true, ◌||◌, List, [], ◌∷◌, ◌++◌, append_assoc, map, length, Some, zero, suc, ◌≤◌, refl, sym, ◌∙◌, ap, subst, arith, slice_index_or}
+use Rattle.std.proofs.Common.{◌≡◌, ℕ, false, List, [], ◌∷◌, ◌++◌, append_assoc, map, length, Some, zero, suc, ◌≤◌, refl, sym, ◌∙◌, ap, subst, arith}
 use Rattle.std.proofs.lemmas.Simd.{map-map}
 use Rattle.std.proofs.lemmas.List.{append-nil, length-map, length-set, map-set, map_push}
 use Rattle.std.proofs.lemmas.List.Elements.{All-map, All-push, All-set}
@@ -16,37 +16,39 @@ use Rattle.hd_merging.specs.Merges.{merged_scene}
 use Rattle.hd_merging.proofs.Conforming.{merged_conforms}
 use Rattle.hd_layer.specs.declared.limits.Which.TheVariants.{Layers}
 use Rattle.hd_layer.specs.Limits.{limit_of}
+use Rattle.hd_scene.specs.Filters.{FilterState}
+use Rattle.hd_merging.specs.Merged.{Merged}
+use Rattle.hd_instancing.specs.Instanced.{instanced_scene}
+use Rattle.hd_instancing.proofs.Marked.{conforms}
 use Rattle.hd_stack.specs.Stacks.{composed_scene, layer_at, IsSound, IsStack, AreSound}
-
-abbrev pub layers_of : List State → List Layer
-layers_of inputs = map (λ (r : State). r.layer) inputs
-
-abbrev pub scenes_of : List State → List Scene
-scenes_of inputs = map (λ (r : State). scene_of r.layer) inputs
+use Rattle.hd_stack.specs.inner.Terminals.{layers_of, scenes_of, IsTerminal}
 
 pub fused : (inputs : List State) → map scene_of (layers_of inputs) ≡ scenes_of inputs
 fused inputs = map-map scene_of (λ (r : State). r.layer) inputs
-
-or_first : (a b : Bool) → a ≡ true → (a || b) ≡ true
-or_first a b h = ap (λ t. t || b) h
-
--- what a layer authors may be there after instancing
-pub conforms_more : (scene : Scene) → SceneConforms is_authored scene → SceneConforms is_instanced scene
-conforms_more scene conforms path e there at v is = or_first (is_authored at v) _ (conforms path e there at v is)
 
 pub inputs_closed : (inputs : List State) → AreSound (layers_of inputs) → All (λ (r : State). IsClosed (scene_of r.layer)) inputs
 inputs_closed [] all k d l = absurd (omega (arith, l))
 inputs_closed (r ∷ inputs) all zero d l = (all 0 r.layer (omega arith)).closed
 inputs_closed (r ∷ inputs) all (suc k) d l = inputs_closed inputs (λ j e m. all (suc j) e (omega (arith, m))) k d (omega (arith, l))
 
-layers_conform : (layers : List Layer) → AreSound layers → All (SceneConforms is_instanced) (map scene_of layers)
-layers_conform layers all = All-map (SceneConforms is_instanced) scene_of layers (λ k d l. conforms_more (scene_of (slice_index_or layers k d)) (all k d l).conforms)
+layers_conform : (layers : List Layer) → AreSound layers → All (SceneConforms is_authored) (map scene_of layers)
+layers_conform layers all = All-map (SceneConforms is_authored) scene_of layers (λ k d l. (all k d l).conforms)
 
-pub composed_conforms : (layers : List Layer) → AreSound layers → SceneConforms is_instanced (composed_scene layers)
-composed_conforms layers all = merged_conforms is_instanced (map scene_of layers) (layers_conform layers all)
+pub composed_conforms : (layers : List Layer) → AreSound layers → SceneConforms is_authored (composed_scene layers)
+composed_conforms layers all = merged_conforms is_authored (map scene_of layers) (layers_conform layers all)
 
-pub terminal_conforms : (inputs : List State) → AreSound (layers_of inputs) → SceneConforms is_instanced (merged_scene (scenes_of inputs))
-terminal_conforms inputs all = subst (λ (ss : List Scene). SceneConforms is_instanced (merged_scene ss)) (fused inputs) (composed_conforms (layers_of inputs) all)
+-- the inputs of a merging of sound layers give the scene that the layers compose, which has authored values
+pub inputs_conform : (inputs : List State) → AreSound (layers_of inputs) → SceneConforms is_authored (merged_scene (scenes_of inputs))
+inputs_conform inputs all = subst (λ (ss : List Scene). SceneConforms is_authored (merged_scene ss)) (fused inputs) (composed_conforms (layers_of inputs) all)
+
+-- what the merging, the instancing and the flattening of a stack need to be asked
+pub terminal_in_step : (instancing : FilterState (Merged State)) → IsTerminal instancing
+    → ((All (λ (r : State). IsClosed (scene_of r.layer)) instancing.input.inputs × SceneConforms is_authored (merged_scene (scenes_of instancing.input.inputs)) × (instancing.spent ≡ false → merged_scene (scenes_of instancing.input.inputs) ≡ instancing.told))
+    × SceneConforms is_instanced (instanced_scene (merged_scene (scenes_of instancing.input.inputs))))
+terminal_in_step instancing is =
+    let inputs : List State = instancing.input.inputs in
+    let conform = inputs_conform inputs is.stack.sound in
+    ((inputs_closed inputs is.stack.sound, conform, is.told), conforms (merged_scene (scenes_of inputs)) conform)
 
 -- the layer of the input of a number
 pub input_layer : (inputs : List State) (k : ℕ) (r : State) → slice_get inputs k ≡ Some r → layer_at (layers_of inputs) k ≡ r.layer

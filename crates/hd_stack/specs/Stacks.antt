@@ -9,10 +9,9 @@ use Rattle.hd_value.specs.Schema.{is_authored}
 use Rattle.hd_scene.specs.Scenes.{Scene, IsClosed, SceneConforms}
 use Rattle.hd_retained.specs.declared.fault.EditFault.{EditFault}
 use Rattle.hd_retained.specs.Layers.{Layer, layer_code, scene_of, AreUsed}
-use Rattle.hd_retained.specs.Edits.{State, edit_layer}
-use Rattle.hd_merging.specs.Merged.{Merged}
+use Rattle.hd_retained.specs.Edits.{edit_layer}
 use Rattle.hd_merging.specs.Merges.{merged_scene}
-use Rattle.hd_scene.specs.Filters.{FilterState}
+use Rattle.hd_instancing.specs.Instanced.{instanced_scene}
 use Rattle.hd_flattening.specs.Flattened.{flattened_scene}
 
 -- the layers, and how often the stack was asked for a prim
@@ -27,9 +26,9 @@ stacked_code = code_by (List Layer × ℕ) (coded× (coded_list layer_code) code
 abbrev pub composed_scene : List Layer → Scene
 composed_scene layers = merged_scene (map scene_of layers)
 
--- the same, where each prim has what it takes from those above it
+-- the same, where each prim has its instancers, and what it takes from those above it
 abbrev pub terminal_scene : List Layer → Scene
-terminal_scene layers = flattened_scene (composed_scene layers)
+terminal_scene layers = flattened_scene (instanced_scene (composed_scene layers))
 
 -- the layer of this number
 abbrev pub layer_at : List Layer → ℕ → Layer
@@ -60,7 +59,3 @@ pub record IsStack (layers : List Layer) : Type 0 where
   pub some : 1 ≤ length layers
   pub few : length layers ≤ limit_of Layers
   pub sound : AreSound layers
-
--- the layers at the inputs of a terminal
-abbrev pub layers_in : FilterState (Merged State) → List Layer
-layers_in terminal = map (λ (r : State). r.layer) terminal.input.inputs

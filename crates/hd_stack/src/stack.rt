@@ -1,4 +1,4 @@
-//! A stack of layers, merged and flattened.
+//! A stack of layers, merged, instanced and flattened.
 
 ghost use Rattle.std.specs.Prelude.{◌≡◌, ◌<◌, ◌≤◌, length, map, All, Ok, OnOk, OnErr, IfOk, IfErr, IsTrue, option_copied, vec_len};
 ghost use Rattle.hd_layer.specs.Edits.{is_edit};
@@ -9,9 +9,11 @@ ghost use Rattle.hd_scene.specs.Scenes.{kind_at};
 ghost use Rattle.hd_retained.specs.Edits.{IsRefusal};
 ghost use Rattle.hd_retained.specs.Layers.{layer_of, ArePathsFrom};
 ghost use Rattle.hd_stack.specs.inner.Kinds.{is_named, kind_over};
-ghost use Rattle.hd_stack.specs.Stacks.{composed_scene, terminal_scene, layers_in, layer_at, edited_at, IsSound, IsStack, AreSound};
+ghost use Rattle.hd_stack.specs.inner.Terminals.{layers_of, layers_in, IsTerminal};
+ghost use Rattle.hd_stack.specs.Stacks.{composed_scene, terminal_scene, layer_at, edited_at, IsSound, IsStack, AreSound};
 
 use hd_flattening::Flattening;
+use hd_instancing::Instancing;
 use hd_layer::{Edit, LayerSpec};
 use hd_merging::Merging;
 use hd_num::List;
@@ -21,8 +23,8 @@ use hd_scene::{Prim, SceneIndex};
 use std::alloc::{AllocError, Global};
 use std::marker::Model;
 
-/// The scene of several layers: merged, and then flattened.
-pub type Terminal = Flattening<Merging<Retained>>;
+/// The scene of several layers: merged, then instanced, and then flattened.
+pub type Terminal = Flattening<Instancing<Merging<Retained>>>;
 
 /// Layers, of which the first is the strongest, as one scene index. It is always in step with them.
 #[derive(Drop)]
@@ -31,16 +33,16 @@ pub struct Stack {
 }
 
 impl Model for Stack {
-    ghost use Rattle.std.specs.Prelude.{map};
-    ghost use Rattle.hd_stack.specs.Stacks.{Stacked, stacked_code, IsStack};
+    ghost use Rattle.hd_stack.specs.Stacks.{Stacked, stacked_code};
+    ghost use Rattle.hd_stack.specs.inner.Terminals.{layers_in, IsTerminal};
 
     ghost Value = { Stacked };
 
     ghost coded = { stacked_code };
 
-    ghost view = { λ stack. record { layers = map (λ r. r.layer) stack.terminal.input.inputs; pulls = stack.terminal.pulls } };
+    ghost view = { λ stack. record { layers = layers_in stack.terminal.input; pulls = stack.terminal.pulls } };
 
-    ghost invariant = { λ stack. IsStack (map (λ r. r.layer) stack.terminal.input.inputs) };
+    ghost invariant = { λ stack. IsTerminal stack.terminal.input };
 }
 
 impl Stack {
@@ -58,7 +60,7 @@ impl Stack {
             inputs.push(input_of(alloc, layer)?)?;
         }
         Ok(Stack {
-            terminal: Flattening::new(Merging::new(inputs)),
+            terminal: terminal_of(alloc, Merging::new(inputs))?,
         })
     }
 
@@ -68,7 +70,7 @@ impl Stack {
         ensures some { 1 ≤ result }
         ensures few { result ≤ limit_of Layers }
     {
-        self.terminal.input().count()
+        self.terminal.input().input().count()
     }
 
     /// Edits the layer of this number, counted from 0. That layer alone decides a refusal, and a refused edit changes
@@ -81,14 +83,14 @@ impl Stack {
         ensures err { OnErr result (self.new ≡ self.old) }
         ensures same_pulls { self.new.pulls ≡ self.old.pulls }
     {
-        edit_input(&mut self.terminal, alloc, layer, edit)
+        edit_below(self.terminal.input_mut(), alloc, layer, edit)
     }
 
     /// The kind of the prim at a path: the first that is not empty, of the layers that have a prim there.
     pub fn kind(&self, path: &Path) -> Result<Option<&Token>, AllocError>
         ensures { IfOk result (λ kind. option_copied kind ≡ kind_at (composed_scene self.now.layers) path.now) }
     {
-        kind_of(self.terminal.input(), path)
+        kind_of(self.terminal.input().input(), path)
     }
 
     /// The paths of one layer's prims at and below a path, those with fewer names first, and else in their order.
@@ -101,7 +103,11 @@ impl Stack {
         requires { layer < length self.now.layers }
         ensures { IfOk result (λ paths. ArePathsFrom (layer_at self.now.layers layer) path.now paths.items) }
     {
-        self.terminal.input().input(layer).paths_from(alloc, path)
+        self.terminal
+            .input()
+            .input()
+            .input(layer)
+            .paths_from(alloc, path)
     }
 
     /// The stack is in step: a fact for proofs, which costs nothing.
@@ -153,23 +159,51 @@ fn input_of(alloc: Global, layer: LayerSpec) -> Result<Retained, AllocError>
     Ok(input)
 }
 
-/// Edits the layer of this number, below the filters.
-fn edit_input(
-    terminal: &mut Terminal,
+/// The filters over a merging of layers.
+fn terminal_of(alloc: Global, merging: Merging<Retained>) -> Result<Terminal, AllocError>
+    requires { IsStack (layers_of merging.inputs) }
+    ensures terminal { IfOk result (λ terminal. IsTerminal terminal.input) }
+    ensures layers { IfOk result (λ terminal. layers_in terminal.input ≡ layers_of merging.inputs) }
+    ensures pulls { IfOk result (λ terminal. terminal.pulls ≡ 0) }
+{
+    let instancing = Instancing::new(alloc, merging)?;
+    Ok(Flattening::new(instancing))
+}
+
+/// Edits the layer of this number, below an instancing, which then may be out of date.
+fn edit_below(
+    instancing: &mut Instancing<Merging<Retained>>,
     alloc: Global,
     layer: usize,
     edit: &Edit,
 ) -> Result<(), EditFault>
-    requires below { layer < length terminal.old.input.inputs }
-    requires stack { IsStack (layers_in terminal.old) }
+    requires below { layer < length instancing.old.input.inputs }
+    requires terminal { IsTerminal instancing.old }
     requires formed { IsTrue (is_edit edit.now) }
-    ensures stack { IsStack (layers_in terminal.new) }
-    ensures done { OnOk result (edited_at (layers_in terminal.old) layer edit.now ≡ Ok (layers_in terminal.new)) }
-    ensures refusal { IfErr result (IsRefusal (edited_at (layers_in terminal.old) layer edit.now)) }
-    ensures err { OnErr result (layers_in terminal.new ≡ layers_in terminal.old) }
-    ensures same_pulls { terminal.new.pulls ≡ terminal.old.pulls }
+    ensures terminal { IsTerminal instancing.new }
+    ensures done { OnOk result (edited_at (layers_in instancing.old) layer edit.now ≡ Ok (layers_in instancing.new)) }
+    ensures refusal { IfErr result (IsRefusal (edited_at (layers_in instancing.old) layer edit.now)) }
+    ensures err { OnErr result (layers_in instancing.new ≡ layers_in instancing.old) }
 {
-    let input = terminal.input_mut().input_mut(layer);
+    edit_input(instancing.input_mut(), alloc, layer, edit)
+}
+
+/// Edits the layer of this number.
+fn edit_input(
+    merging: &mut Merging<Retained>,
+    alloc: Global,
+    layer: usize,
+    edit: &Edit,
+) -> Result<(), EditFault>
+    requires below { layer < length merging.old.inputs }
+    requires stack { IsStack (layers_of merging.old.inputs) }
+    requires formed { IsTrue (is_edit edit.now) }
+    ensures stack { IsStack (layers_of merging.new.inputs) }
+    ensures done { OnOk result (edited_at (layers_of merging.old.inputs) layer edit.now ≡ Ok (layers_of merging.new.inputs)) }
+    ensures refusal { IfErr result (IsRefusal (edited_at (layers_of merging.old.inputs) layer edit.now)) }
+    ensures err { OnErr result (layers_of merging.new.inputs ≡ layers_of merging.old.inputs) }
+{
+    let input = merging.input_mut(layer);
     let done = input.edit(alloc, edit);
     input.is_in_step();
     input.conforms();
@@ -200,7 +234,7 @@ fn kind_over<'a>(strong: Option<&'a Token>, weak: Option<&'a Token>) -> Option<&
 
 /// The kind of the prim that the inputs together have at a path. No input after the one that decides is asked.
 fn kind_of<'a>(inputs: &'a Merging<Retained>, path: &Path) -> Result<Option<&'a Token>, AllocError>
-    ensures { IfOk result (λ kind. option_copied kind ≡ kind_at (composed_scene (map (λ r. r.layer) inputs.now.inputs)) path.now) }
+    ensures { IfOk result (λ kind. option_copied kind ≡ kind_at (composed_scene (layers_of inputs.now.inputs)) path.now) }
 {
     let mut found = None;
     for k in 0..inputs.count() {

@@ -3,7 +3,7 @@ use Rattle.hd_scene.specs.Scenes.{kind_at}
 use Rattle.hd_retained.specs.Edits.{State}
 use Rattle.hd_stack.specs.Stacks.{composed_scene}
 use Rattle.hd_stack.specs.inner.Kinds.{kind_over}
-use Rattle.hd_stack.proofs.Layered.{layers_of}
+use Rattle.hd_stack.specs.inner.Terminals.{layers_of}
 use Rattle.hd_stack.proofs.KindsOf.{kind_from, kind_asked, all_asked}
 use Rattle.hd_stack.proofs.stack.kind_of.Goals as goal
 

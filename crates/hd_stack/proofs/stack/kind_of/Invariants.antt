@@ -2,7 +2,7 @@ use Rattle.std.proofs.Common.{◌≡◌, option_copied}
 use Rattle.hd_scene.specs.Scenes.{kind_at}
 use Rattle.hd_stack.specs.Stacks.{composed_scene}
 use Rattle.hd_stack.specs.inner.Kinds.{kind_over}
-use Rattle.hd_stack.proofs.Layered.{layers_of}
+use Rattle.hd_stack.specs.inner.Terminals.{layers_of}
 use Rattle.hd_stack.proofs.KindsOf.{kind_from}
 use Rattle.hd_stack.proofs.stack.kind_of.Given as goal
 

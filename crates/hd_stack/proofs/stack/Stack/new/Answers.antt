@@ -7,9 +7,9 @@ use Rattle.hd_layer.specs.declared.spec.LayerSpec.{LayerSpec}
 use Rattle.hd_retained.specs.Edits.{State}
 use Rattle.hd_retained.specs.Layers.{layer_of}
 use Rattle.hd_merging.specs.Merged.{Merged}
-use Rattle.hd_scene.specs.Filters.{FilterState}
 use Rattle.hd_stack.specs.Stacks.{IsSound, IsStack, AreSound}
-use Rattle.hd_stack.proofs.Layered.{layers_of, layers_all, layers_more, sound_more, first_formed, stack_of}
+use Rattle.hd_stack.specs.inner.Terminals.{layers_of}
+use Rattle.hd_stack.proofs.Layered.{layers_all, layers_more, sound_more, first_formed, stack_of}
 use Rattle.hd_stack.proofs.stack.Stack.new.Goals as goal
 
 pub loop-layer-init : goal.loop-layer-init
@@ -44,13 +44,12 @@ loop-layer-preserved c =
       counted = omega (arith, steps.1, before.counted, many);
     }
 
-pub invariant_of-result : goal.invariant_of-result
-invariant_of-result c =
+pub terminal_of-requires : goal.terminal_of-requires
+terminal_of-requires c =
     let inputs : List State = c.loop-layer.inputs.items in
     let specs : List LayerSpec = c.args.layers.items in
     let left : List LayerSpec = into_iter_items c.loop-layer.layer-iterator in
     let none : length left ≡ 0 = omega (arith, c.in-None.ensures.steps.0, c.loop-layer.invariant.counted) in
     let are = layers_all inputs left (map layer_of specs) none c.loop-layer.invariant.layers in
-    subst (λ (t : FilterState (Merged State)). IsStack (layers_of t.input.inputs)) (sym c.new-2.ensures)
-    (subst (λ (m : Merged State). IsStack (layers_of m.inputs)) (sym c.new.ensures)
-    (stack_of inputs specs are (omega (arith, c.requires.some, c.args.layers.ok)) (omega (arith, c.requires.few, c.args.layers.ok)) c.loop-layer.invariant.sound))
+    subst (λ (m : Merged State). IsStack (layers_of m.inputs)) (sym c.new.ensures)
+    (stack_of inputs specs are (omega (arith, c.requires.some, c.args.layers.ok)) (omega (arith, c.requires.few, c.args.layers.ok)) c.loop-layer.invariant.sound)

@@ -4,7 +4,7 @@ use Rattle.std.specs.Vec.Iter.{into_iter_items, into_iter_len}
 use Rattle.hd_layer.specs.WellFormed.{is_layer}
 use Rattle.hd_retained.specs.Layers.{layer_of}
 use Rattle.hd_stack.specs.Stacks.{AreSound}
-use Rattle.hd_stack.proofs.Layered.{layers_of}
+use Rattle.hd_stack.specs.inner.Terminals.{layers_of}
 use Rattle.hd_stack.proofs.stack.Stack.new.Given as goal
 
 abbrev pub invariant-loop-layer : goal.invariant-loop-layer
