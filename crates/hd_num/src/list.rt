@@ -1,6 +1,7 @@
 //! A list that does not change and is shared by its copies.
 
 ghost use Rattle.std.specs.Prelude.{◌≡◌, ◌↔◌, [], IfOk, IsTrue, length};
+ghost use Rattle.std.specs.Cmp.Lexicographic.{pointwise, lists_per, lists_equiv};
 
 use std::alloc::{AllocError, Global};
 use std::marker::Model;
@@ -79,4 +80,20 @@ impl<T: Drop> List<T> {
             None => Ok(List::empty()),
         }
     }
+}
+
+/// Lists are equal where their items are, in order, also where the lists share no items.
+impl<T: PartialEq> PartialEq for List<T> {
+    ghost eq = { pointwise T.eq };
+
+    ghost laws = { lists_per T.laws };
+
+    // std does not tell whether two `Arc`s share their value, so the items of a list and of its copy are compared too.
+    fn eq(&self, other: &List<T>) -> bool {
+        self.items() == other.items()
+    }
+}
+
+impl<T: Eq> Eq for List<T> {
+    ghost laws = { lists_equiv T.Eq.laws };
 }
