@@ -6,6 +6,7 @@ use Rattle.std.specs.Prelude.{Contains}
 use Rattle.std.specs.Int.{bit_at}
 use Rattle.std.specs.Int.RustNames.{bit_and, bit_or}
 use Rattle.std.proofs.lemmas.Nat.Bits.{same_from_bits, bit_at_or, bit_at_and, and_pow, bit_at-lt}
+use Rattle.std.proofs.Math.Bool.{or-true, and-false}
 use Rattle.hd_path.specs.Paths.{is_prefix}
 use Rattle.hd_tokens.specs.Locators.{Locator}
 use Rattle.hd_value.specs.declared.groups.Group.{Group}
@@ -100,10 +101,6 @@ none_has Instancer = refl
 none_has Instances = refl
 none_has MaterialColor = refl
 
-and_false : (b : Bool) → (b && false) ≡ false
-and_false true = refl
-and_false false = refl
-
 -- a group's bit is in those of the groups that pass where it is in those of all, and the group passes
 has-filter : (test : Group → Bool) (groups : List Group) (group : Group) → has (bits_of_groups (filter test groups)) group ≡ (has (bits_of_groups groups) group && test group)
 has-filter test [] group = none_has group ∙ sym (ap (λ b. b && test group) (none_has group))
@@ -121,7 +118,7 @@ has-filter test (g ∷ groups) group =
     its false e t = refl
 
     none : (b : Bool) → has (bit_of_group g) group ≡ b → test g ≡ false → (has all group && test group) ≡ ((b || has all group) && test group)
-    none true e t = let fails : test group ≡ false = ap test (sym (one_group g group e)) ∙ t in ap (λ c. has all group && c) fails ∙ and_false (has all group) ∙ sym fails
+    none true e t = let fails : test group ≡ false = ap test (sym (one_group g group e)) ∙ t in ap (λ c. has all group && c) fails ∙ and-false (has all group) ∙ sym fails
     none false e t = refl
 
     with_test : (b : Bool) → test g ≡ b → has kept group ≡ (has all group && test group)
@@ -201,11 +198,7 @@ touches_below : (set : List Locator) (at x : Locator) → Contains set at → is
 touches_below [] at x (k, h, e) p = absurd (omega arith)
 touches_below (member ∷ set) at x (zero, h, e) p = ap (λ (m : Locator). intersects m x || touches set x) e ∙ ap (λ b. (b || is_prefix x at) || touches set x) p
 touches_below (member ∷ set) at x (suc k, h, e) p =
-    ap (λ b. intersects member x || b) (touches_below set at x (k, omega arith, e) p) ∙ or_true (intersects member x)
-  where
-    or_true : (b : Bool) → (b || true) ≡ true
-    or_true true = refl
-    or_true false = refl
+    ap (λ b. intersects member x || b) (touches_below set at x (k, omega arith, e) p) ∙ or-true (intersects member x)
 
 pub group_below_is_reached : GroupBelowIsReached
 group_below_is_reached kind set at group h p =

@@ -9,6 +9,7 @@ ghost use Rattle.hd_value.specs.LocatorSets.{touches};
 use crate::bits::Bits;
 use bitflags::Flags;
 use hd_path::Token;
+use hd_tokens::kinds;
 use hd_value::{Group, LocatorSet};
 
 const MESH: &[Group] = &[
@@ -48,15 +49,15 @@ pub fn groups_of(kind: &Token) -> &'static [Group]
     ensures { result.now ≡ groups_of kind.now }
 {
     let kind = kind.text();
-    if kind == "Mesh" {
+    if kind == kinds::MESH {
         MESH
-    } else if kind == "Points" {
+    } else if kind == kinds::POINTS {
         POINTS
-    } else if kind == "Camera" {
+    } else if kind == kinds::CAMERA {
         CAMERA
-    } else if kind == "Material" {
+    } else if kind == kinds::MATERIAL {
         MATERIAL
-    } else if kind == "PointInstancer" {
+    } else if kind == kinds::POINT_INSTANCER {
         POINT_INSTANCER
     } else {
         &[]

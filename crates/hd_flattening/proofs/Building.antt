@@ -13,6 +13,7 @@ use Rattle.hd_value.specs.inner.Falls.{locators_total, locators_tie}
 use Rattle.hd_path.specs.Names.{is_same}
 use Rattle.hd_path.specs.Paths.{is_prefix}
 use Rattle.hd_path.proofs.NamePrefixes.{same_text, and_true, or_false}
+use Rattle.hd_path.proofs.Logic.{true_is_not, some_is_not, either}
 use Rattle.hd_value.specs.Maps.{Map}
 use Rattle.hd_value.specs.Schema.{Row, allows, passed_rows, flattened_away_rows, instanced_by_row, reset_row, is_named_op, is_authored, is_instanced, IsInstanced}
 use Rattle.hd_value.proofs.Getting.{eqk}
@@ -21,7 +22,7 @@ use Rattle.hd_tokens.specs.Locators.{Locator, op_at, matrix_at, visibility_at, p
 use Rattle.hd_flattening.specs.Flat.{flat_matrix, is_visible, flat_purpose, flat_binding, flat_colors}
 use Rattle.hd_flattening.specs.Flattened.{passes, matrix_value, with_binding, flat_values}
 use Rattle.hd_flattening.specs.inner.FlatLocators.{flat_locators, passed_locators, is_among, IsWithin, with_value, with_passed, with_all_passed, binding_value}
-use Rattle.hd_flattening.proofs.Placing.{same, true_is_not, some_is_not, each_among, locators_apart}
+use Rattle.hd_flattening.proofs.Placing.{same, each_among, locators_apart}
 
 -- what passes of a prim's own
 abbrev pub passed_at : Map → List (List ℕ) → Option Value
@@ -113,16 +114,12 @@ op_placed : (q : Locator) (v : Value) → is_named_op q v ≡ true → is_placed
 op_placed q v e = ap (λ b. b || is_among flat_locators q) (op_apart q v e)
 
 pub instanced_placed : (q : Locator) (v : Value) → is_instanced q v ≡ true → is_placed q ≡ true
-instanced_placed q v e = either (is_authored q v) (allows (instanced_by_row ∷ reset_row ∷ []) q v) (is_placed q)
-    (either (allows passed_rows q v || allows flattened_away_rows q v) (is_named_op q v) (is_placed q)
-    (either (allows passed_rows q v) (allows flattened_away_rows q v) (is_placed q) (row_of_value is_placed passed_rows q v refl) (row_of_value is_placed flattened_away_rows q v refl))
+instanced_placed q v e = either (is_authored q v) (allows (instanced_by_row ∷ reset_row ∷ []) q v)
+    (either (allows passed_rows q v || allows flattened_away_rows q v) (is_named_op q v)
+    (either (allows passed_rows q v) (allows flattened_away_rows q v) (row_of_value is_placed passed_rows q v refl) (row_of_value is_placed flattened_away_rows q v refl))
     (op_placed q v))
     (row_of_value is_placed (instanced_by_row ∷ reset_row ∷ []) q v refl)
     e
-  where
-    either : (a b c : Bool) → (a ≡ true → c ≡ true) → (b ≡ true → c ≡ true) → (a || b) ≡ true → c ≡ true
-    either true b c f g h = f refl
-    either false b c f g h = g h
 
 -- each value of a flat prim is at a place
 pub flat_within : (prim : Map) (above : List Map) → IsInstanced prim → IsWithin flat_locators (flat_values prim above)

@@ -9,7 +9,7 @@ use Rattle.hd_value.specs.Schema.{Conforms}
 use Rattle.hd_value.proofs.Getting.{eqk, eqk_same}
 use Rattle.hd_value.proofs.Setting.{get-set_at}
 use Rattle.hd_path.specs.Paths.{is_prefix}
-use Rattle.hd_flattening.proofs.Placing.{some_is_not}
+use Rattle.hd_path.proofs.Logic.{some_is_not}
 use Rattle.hd_tokens.specs.Locators.{Locator}
 
 -- the container without values conforms, and so does one with one value more that may be there

@@ -8,6 +8,7 @@ use Rattle.hd_tokens.specs.Properties.{purposes}
 use Rattle.hd_value.specs.declared.value.Value.{Value}
 use Rattle.hd_value.specs.declared.value.Value.TheVariants.{Token, Tokens, Ints, Vecs, Color, Colors, Paths, Op, Matrix, Out, Flag}
 use Rattle.hd_path.specs.Paths.{Path, is_prefix}
+use Rattle.hd_path.proofs.Logic.{true_is_not, some_is_not, either}
 use Rattle.hd_value.specs.Maps.{Map}
 use Rattle.hd_value.specs.Schema.{allows, passed_rows, flattened_away_rows, instanced_by_row, reset_row, flattened_rows, is_named_op, is_authored, is_instanced, is_flattened, is_word_of, Conforms, IsInstanced}
 use Rattle.hd_value.proofs.Getting.{eqk, eqk_same}
@@ -20,7 +21,6 @@ use Rattle.hd_flattening.specs.Flattened.{passes, matrix_value, flat_entry, flat
 use Rattle.hd_flattening.specs.Laws.{FlattenedConforms}
 use Rattle.hd_flattening.specs.inner.FlatLocators.{binding_value}
 use Rattle.hd_flattening.specs.Scenes.{get-flattened}
-use Rattle.hd_flattening.proofs.Placing.{true_is_not, some_is_not}
 use Rattle.hd_flattening.proofs.Building.{unbound_at, get-flat_values, row_of_value, op_apart}
 use Rattle.hd_flattening.proofs.Conforming.{empty_conforms}
 
@@ -55,22 +55,18 @@ purpose_word (prim ∷ above) others =
 
 -- what passes of an instanced prim may be in a flat one
 passed_flat : (q : Locator) (v : Value) → passes q ≡ true → is_instanced q v ≡ true → is_flattened q v ≡ true
-passed_flat q v passing e = either (is_authored q v) (allows (instanced_by_row ∷ reset_row ∷ []) q v) (is_flattened q v)
-    (either (allows passed_rows q v || allows flattened_away_rows q v) (is_named_op q v) (is_flattened q v)
-    (either (allows passed_rows q v) (allows flattened_away_rows q v) (is_flattened q v)
+passed_flat q v passing e = either (is_authored q v) (allows (instanced_by_row ∷ reset_row ∷ []) q v)
+    (either (allows passed_rows q v || allows flattened_away_rows q v) (is_named_op q v)
+    (either (allows passed_rows q v) (allows flattened_away_rows q v)
     (λ is. ap (λ b. b || allows (instanced_by_row ∷ []) q v || allows flattened_rows q v) is)
     (λ away. gone (row_of_value (λ at. not (passes at)) flattened_away_rows q v refl away)))
     (λ op. gone (op_apart q v op)))
-    (λ added. either (allows (instanced_by_row ∷ []) q v) (allows (reset_row ∷ []) q v) (is_flattened q v)
+    (λ added. either (allows (instanced_by_row ∷ []) q v) (allows (reset_row ∷ []) q v)
     (λ is. ap (λ b. (allows passed_rows q v || b) || allows flattened_rows q v) is ∙ either_true (allows passed_rows q v))
     (λ reset. gone (row_of_value (λ at. not (passes at)) (reset_row ∷ []) q v refl reset))
     (regroup (is_prefix instanced_by_row.0 q && is_prefix q instanced_by_row.0 && instanced_by_row.1 v) (allows (reset_row ∷ []) q v) added))
     e
   where
-    either : (a b c : Bool) → (a ≡ true → c ≡ true) → (b ≡ true → c ≡ true) → (a || b) ≡ true → c ≡ true
-    either true b c f g h = f refl
-    either false b c f g h = g h
-
     regroup : (a b : Bool) → (a || b) ≡ true → ((a || false) || b) ≡ true
     regroup true b h = refl
     regroup false b h = h

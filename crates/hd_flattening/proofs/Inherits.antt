@@ -4,6 +4,7 @@ use Rattle.std.proofs.lemmas.Bool.Decides.{Decides-eqb}
 use Rattle.std.proofs.lemmas.List.{append-nil}
 use Rattle.std.proofs.Math.Seq.{take-append_seam}
 use Rattle.std.specs.FinMap.{get}
+use Rattle.std.proofs.Math.Bool.{and-false}
 use Rattle.hd_num.specs.Matrices.{Rows}
 use Rattle.hd_value.specs.Maps.{Map}
 use Rattle.hd_scene.specs.Scenes.{Scene, prim_of}
@@ -68,12 +69,8 @@ hidden_below scene path (name ∷ rest) some hidden =
     ∙ hidden_below scene (path ++ name ∷ []) rest (longer path)
     (ap (λ (above : List Map). is_visible (values_at scene (path ++ name ∷ []) ∷ above)) (ancestors-child scene path name some)
     ∙ ap (λ b. not (is_invisible (values_at scene (path ++ name ∷ []))) && b) hidden
-    ∙ and_false (not (is_invisible (values_at scene (path ++ name ∷ [])))))
+    ∙ and-false (not (is_invisible (values_at scene (path ++ name ∷ [])))))
   where
-    and_false : (b : Bool) → (b && false) ≡ false
-    and_false true = refl
-    and_false false = refl
-
     longer : (p : Path) → p ++ name ∷ [] ≢ []
     longer [] e = cc
     longer (x ∷ p) e = cc

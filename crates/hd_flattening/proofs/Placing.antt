@@ -7,7 +7,8 @@ use Rattle.hd_path.specs.inner.Comparing.{names_same}
 use Rattle.hd_value.specs.declared.value.Value.{Value}
 use Rattle.hd_path.specs.Names.{is_same}
 use Rattle.hd_path.specs.Paths.{is_prefix}
-use Rattle.hd_path.proofs.NamePrefixes.{same_itself}
+use Rattle.hd_path.proofs.NamePrefixes.{same_itself, and_true, nothing_left}
+use Rattle.hd_path.proofs.Logic.{true_is_not, some_is_not}
 use Rattle.hd_value.specs.Maps.{Map, IsFree, set_at}
 use Rattle.hd_value.proofs.Getting.{eqk, eqk_same}
 use Rattle.hd_value.proofs.Setting.{get-set_at}
@@ -18,31 +19,15 @@ use Rattle.hd_tokens.specs.Locators.{Locator}
 abbrev pub same : List (List ℕ) → List (List ℕ) → Bool
 same = pointwise is_same
 
-pub true_is_not : {P : Type 0} → true ≡ false → P
-true_is_not e = absurd (none e)
-  where
-    none : true ≡ false → ⊥
-    none e = cc
-
-pub some_is_not : {X P : Type 0} (x : X) → Some x ≡ None → P
-some_is_not x e = absurd (none e)
-  where
-    none : Some x ≡ None → ⊥
-    none e = cc
-
 -- what holds of each place holds of a locator that is among them
 pub each_among : (test : List (List ℕ) → Bool) (places : List (List (List ℕ))) (at : Locator) → list_all test places ≡ true → is_among places at ≡ true → test at ≡ true
 each_among test [] at all among = true_is_not (sym among)
 each_among test (p ∷ places) at all among =
-    let both = halves (test p) (list_all test places) all in
+    let both = and_true (test p) (list_all test places) all in
     elim (same at p) as (λ b. same at p ≡ b → (b || is_among places at) ≡ true → test at ≡ true) [
       | true ↦ λ here _. ap test (names_same at p here) ∙ both.0
       | false ↦ λ _ later. each_among test places at both.1 later
     ] refl among
-  where
-    halves : (a b : Bool) → (a && b) ≡ true → (a ≡ true) × (b ≡ true)
-    halves true b e = (refl, e)
-    halves false b e = (e, true_is_not (sym e))
 
 -- a place is no prefix of another one
 pub locators_apart : (front at : Locator) → is_among flat_locators front ≡ true → is_among flat_locators at ≡ true → is_prefix front at ≡ true → front ≡ at
@@ -54,10 +39,6 @@ locators_apart front at among_front among_at prefix =
 is_prefix-append : (front rest : Locator) → is_prefix front (front ++ rest) ≡ true
 is_prefix-append [] rest = refl
 is_prefix-append (x ∷ front) rest = ap (λ b. b && is_prefix front (front ++ rest)) (same_itself x) ∙ is_prefix-append front rest
-
-nothing_left : (front rest : Locator) → front ≡ front ++ rest → rest ≡ []
-nothing_left [] rest e = sym e
-nothing_left (x ∷ front) rest e = nothing_left front rest cc
 
 -- no value is above a place
 pub locator_free : (m : Map) (at : Locator) → IsWithin flat_locators m → is_among flat_locators at ≡ true → IsFree m at

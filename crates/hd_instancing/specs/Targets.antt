@@ -1,11 +1,12 @@
 -- The prototypes of instancers: their targets, and what is instanced.
-use Rattle.std.specs.Prelude.{Bool, if◌then◌else◌, List, [], Option, Some, codes, filter}
+use Rattle.std.specs.Prelude.{Bool, if◌then◌else◌, List, [], Option, Some, filter}
 use Rattle.std.specs.List.{list_any}
 use Rattle.std.specs.Option.{option_map_or}
 use Rattle.std.specs.FinMap.{get, keys}
 use Rattle.hd_path.specs.Names.{Name, is_same}
 use Rattle.hd_path.specs.Paths.{Path, is_prefix}
 use Rattle.hd_tokens.specs.Locators.{prototypes_at}
+use Rattle.hd_tokens.specs.Kinds.{point_instancer_kind}
 use Rattle.hd_value.specs.declared.value.Value.{Value}
 use Rattle.hd_value.specs.declared.value.Value.TheVariants.{Paths}
 use Rattle.hd_scene.specs.Scenes.{Scene}
@@ -13,7 +14,7 @@ use Rattle.hd_scene.specs.Tells.{is_same_path}
 use Rattle.hd_scene.specs.declared.prims.Entry.{Entry}
 
 abbrev pub is_instancer : (kind : Name) → Bool
-is_instancer kind = is_same kind (codes "PointInstancer")
+is_instancer kind = is_same kind point_instancer_kind
 
 -- the paths of a value, and none where there is another value, or nothing
 abbrev pub paths_of : Option Value → List Path

@@ -8,7 +8,7 @@ ghost use Rattle.hd_instancing.specs.inner.Tables.{primitive_targets};
 
 use hd_path::{Path, Token};
 use hd_scene::Prim;
-use hd_tokens::locators;
+use hd_tokens::{kinds, locators};
 use hd_value::{Container, Source, Value};
 
 /// The targets of what is at a path: an instancer's prototypes.
@@ -34,7 +34,7 @@ fn targets_in<'a>(kind: &Token, values: &'a Container) -> &'a [Path]
 fn is_instancer(kind: &Token) -> bool
     ensures { result ≡ is_instancer kind.now }
 {
-    kind.text() == "PointInstancer"
+    kind.text() == kinds::POINT_INSTANCER
 }
 
 fn prototypes(values: &Container) -> &[Path]

@@ -1,4 +1,4 @@
--- Acts that are broken off, the first of them not begun or a line.
+-- Acts that are interrupted, the first of them not begun or a line.
 use Rattle.std.proofs.Common.{◌≡◌, ℕ, List, [], ◌∷◌, ◌++◌, take, Option, Some, None, refl, sym, ap, inl, inr, append-nil}
 use Rattle.std.specs.Option.{option_map}
 use Rattle.hd_io.specs.Rack.{RackState}
@@ -21,7 +21,7 @@ cut_nothing (line bytes ∷ acts) = inl (refl, refl)
 pub adds_nothing : (o : Outside) → Adds [] [] o o
 adds_nothing o = record { files_added = nothing_added o.rack.files; text_added = nothing_added o.sink.text }
 
--- and acts were broken off before the first of them
+-- and acts were interrupted before the first of them
 pub none_written : (acts : List Act) (o : Outside) → WroteCut acts o o
 none_written acts o = ([], [], cut_nothing acts, adds_nothing o)
 

@@ -24,7 +24,7 @@ text_of [] = []
 text_of (file name bytes ∷ acts) = text_of acts
 text_of (line bytes ∷ acts) = bytes ++ text_of acts
 
--- What a run that was broken off can have made of acts: nothing; a beginning of the first; or the whole first, and then of the rest.
+-- What an interrupted run can have made of acts: nothing; a beginning of the first; or the whole first, and then of the rest.
 abbrev pub Cut : List Act → FileList → List ℕ → Type 0
 Cut [] files text = (files ≡ []) × (text ≡ [])
 Cut (file name bytes ∷ acts) files text =
@@ -57,7 +57,7 @@ pub record Wrote (acts : List Act) (before now : Outside) : Type 0 where
   pub added : Adds (files_of acts) (text_of acts) before now
   pub is_open : now.rack.is_open ≡ open_after acts before.rack.is_open
 
--- the acts were made, or broken off, and nothing else
+-- the acts were made, or interrupted, and nothing else
 abbrev pub WroteCut : List Act → (before now : Outside) → Type 0
 WroteCut acts before now = (files : FileList) × (text : List ℕ) × Cut acts files text × Adds files text before now
 

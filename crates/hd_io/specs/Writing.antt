@@ -1,4 +1,4 @@
--- What writing a file or a line leaves, whole or broken off.
+-- What writing a file or a line leaves, whole or interrupted.
 use Rattle.std.specs.Prelude.{◌≡◌, ◌≤◌, ◌⊎◌, ℕ, List, [], ◌∷◌, ◌++◌, length, take, Option}
 use Rattle.std.specs.Option.{option_map}
 use Rattle.hd_io.specs.Files.{FileList, with_bytes}

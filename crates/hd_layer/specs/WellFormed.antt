@@ -1,12 +1,12 @@
 -- Layers, prims and properties that may be handed on.
-use Rattle.std.specs.Prelude.{ℕ, ◌-◌, ◌%◌, ℤ, unsigned_abs, List, [], ◌∷◌, length, map, take, Bool, true, false, ◌&&◌, ◌||◌, not, ◌==◌, nat_le, nat_lt, Option, Some, None}
+use Rattle.std.specs.Prelude.{◌-◌, ◌%◌, ℤ, unsigned_abs, List, [], ◌∷◌, length, map, take, Bool, true, false, ◌&&◌, ◌||◌, not, ◌==◌, nat_le, nat_lt, Option, Some, None}
 use Rattle.std.specs.List.{list_all, list_any}
 use Rattle.std.specs.Str.{bytes_eq}
 use Rattle.std.specs.Ordering.{is_eq, is_lt}
 use Rattle.hd_num.specs.declared.vector.Vec3.{Vec3}
 use Rattle.hd_num.specs.Matrices.{Rows}
-use Rattle.hd_path.specs.Names.{is_identifier}
-use Rattle.hd_layer.specs.declared.limits.Which.TheVariants.{Literal, Elements, Name, Prims}
+use Rattle.hd_path.specs.Names.{is_identifier, Name}
+use Rattle.hd_layer.specs.declared.limits.Which.TheVariants as limit
 use Rattle.hd_tokens.specs.declared.properties.AttributeKind.{AttributeKind}
 use Rattle.hd_tokens.specs.declared.properties.AttributeKind.TheVariants as role
 use Rattle.hd_layer.specs.declared.spec.RawValue.{RawValue}
@@ -21,7 +21,7 @@ use Rattle.hd_path.specs.Paths.{path_cmp, Path}
 
 -- within the limit of a literal
 abbrev pub is_small : ℤ → Bool
-is_small n = nat_le (unsigned_abs n) (limit_of Literal)
+is_small n = nat_le (unsigned_abs n) (limit_of limit.Literal)
 
 -- whole quarter turns within the limit, in degrees
 abbrev pub is_quarters : ℤ → Bool
@@ -33,16 +33,16 @@ each_of test v = test v.x && test v.y && test v.z
 
 -- a list within the limit, of items that pass the test
 abbrev pub is_list : {A : Type 0} → (A → Bool) → List A → Bool
-is_list test items = nat_le (length items) (limit_of Elements) && list_all test items
+is_list test items = nat_le (length items) (limit_of limit.Elements) && list_all test items
 
 -- one item, which passes the test
 abbrev pub is_single : {A : Type 0} → (A → Bool) → List A → Bool
 is_single test items = (length items == 1) && list_all test items
 
 -- entries of an op order, of which the first may be the reset
-abbrev pub are_op_entries : List (List ℕ) → Bool
+abbrev pub are_op_entries : List Name → Bool
 are_op_entries [] = true
-are_op_entries (entry ∷ entries) = nat_le (length (entry ∷ entries)) (limit_of Elements) && is_op_entry true entry && list_all (is_op_entry false) entries
+are_op_entries (entry ∷ entries) = nat_le (length (entry ∷ entries)) (limit_of limit.Elements) && is_op_entry true entry && list_all (is_op_entry false) entries
 
 abbrev pub are_triples : (List Vec3 → Bool) → RawValue → Bool
 are_triples test (Triples triples) = test triples
@@ -58,7 +58,7 @@ are_numbers test (Words words) = false
 are_numbers test (Paths paths) = false
 are_numbers test (Matrix rows) = false
 
-abbrev pub are_words : (List (List ℕ) → Bool) → RawValue → Bool
+abbrev pub are_words : (List Name → Bool) → RawValue → Bool
 are_words test (Words words) = test words
 are_words test (Numbers numbers) = false
 are_words test (Triples triples) = false
@@ -103,7 +103,7 @@ abbrev pub is_below_root : Path → Bool
 is_below_root path = nat_lt 0 (length path)
 
 -- the value of a property of this role, or of a relationship
-abbrev pub has_value : Option AttributeKind → List ℕ → RawValue → Bool
+abbrev pub has_value : Option AttributeKind → Name → RawValue → Bool
 has_value None name value = is_target_name name && are_paths (is_list is_below_root) value
 has_value (Some role) name value = has_form role value
 
@@ -112,7 +112,7 @@ abbrev pub is_property : Property → Bool
 is_property p = has_value (attribute_kind_of p.name) p.name p.value
 
 -- no name is twice
-abbrev pub are_distinct : List (List ℕ) → Bool
+abbrev pub are_distinct : List Name → Bool
 are_distinct [] = true
 are_distinct (name ∷ names) = not (list_any (bytes_eq name) names) && are_distinct names
 
@@ -133,14 +133,14 @@ has_parent paths path = (length path == 1) || list_any (λ other. is_eq (path_cm
 abbrev pub is_layer : LayerSpec → Bool
 is_layer l =
     let paths = map (λ p. p.path) l.prims in
-    nat_le (length paths) (limit_of Prims) && list_all is_prim_spec l.prims && ascend paths && list_all (has_parent paths) paths
+    nat_le (length paths) (limit_of limit.Prims) && list_all is_prim_spec l.prims && ascend paths && list_all (has_parent paths) paths
 
 -- an identifier within the limit
-abbrev pub is_prim_name : List ℕ → Bool
-is_prim_name name = is_identifier name && nat_le (length name) (limit_of Name)
+abbrev pub is_prim_name : Name → Bool
+is_prim_name name = is_identifier name && nat_le (length name) (limit_of limit.Name)
 
 -- the type of a prim: none, or an identifier within the limit
-abbrev pub is_kind : List ℕ → Bool
+abbrev pub is_kind : Name → Bool
 is_kind kind = bytes_eq kind [] || is_prim_name kind
 
 -- each prim's type is none, or an identifier within the limit

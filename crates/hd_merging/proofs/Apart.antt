@@ -6,7 +6,7 @@ use Rattle.std.specs.Prelude.{All}
 use Rattle.std.specs.List.{AllByRecursion, list_any, cons_option}
 use Rattle.std.specs.Option.{option_or}
 use Rattle.std.specs.Ordering.{eq_by_cmp, is_eq}
-use Rattle.std.specs.Cmp.{tied_itself}
+use Rattle.std.specs.Cmp.{tied_itself, both_ways}
 use Rattle.std.specs.FinMap.{get, keys, contains_key-keys, same_map}
 use Rattle.hd_value.specs.declared.value.Value.{Value}
 use Rattle.hd_value.specs.inner.Falls.{locators_total, locators_tie}
@@ -17,9 +17,9 @@ use Rattle.hd_value.specs.Schema.{Conforms}
 use Rattle.hd_value.proofs.Overlaying.{untouched}
 use Rattle.hd_path.proofs.NamePrefixes.{same_itself}
 use Rattle.hd_path.specs.Paths.{Path, path_cmp, is_prefix}
+use Rattle.hd_path.proofs.Logic.{true_is_not}
 use Rattle.hd_scene.specs.Scenes.{Scene, value_at, SceneConforms}
 use Rattle.hd_scene.specs.declared.prims.Entry.{Entry}
-use Rattle.hd_scene.proofs.Children.{same_answer}
 use Rattle.hd_scene.proofs.Closing.{is_equal}
 use Rattle.hd_merging.specs.Merges.{overlay, first_kind, merged_prim, merged_entry, prims_at, merged_scene}
 use Rattle.hd_merging.specs.inner.MergedScenes.{or_left, or_right, get-overlaid, get-merged}
@@ -27,9 +27,6 @@ use Rattle.hd_merging.specs.Laws.{IsUnnested, strongest_value}
 use Rattle.hd_merging.proofs.Conforming.{value_at-merged}
 use Rattle.hd_merging.proofs.Together.{same_parts, kinds_of, values_of}
 use Rattle.hd_tokens.specs.Locators.{Locator}
-
-true_is_not : true ≡ false → ⊥
-true_is_not e = cc
 
 none_is_not : (v : Value) → None ≡ Some v → ⊥
 none_is_not v e = cc
@@ -138,7 +135,7 @@ module _ (may_stand : Locator → Value → Bool) (unnested : IsUnnested may_sta
       ] is
 
   touches-overlaid : (ms : List Map) → AllByRecursion (Conforms may_stand) ms → (at : Locator) → touches (keys (overlay ms)) at ≡ list_any (λ m. touches (keys m) at) ms
-  touches-overlaid ms conforms at = same_answer (touches (keys (overlay ms)) at) (list_any (λ m. touches (keys m) at) ms)
+  touches-overlaid ms conforms at = both_ways (touches (keys (overlay ms)) at) (list_any (λ m. touches (keys m) at) ms)
       (λ near.
       let t : Touching (overlay ms) at = touching (overlay ms) at near in
       touching_one ms t.key at t.value (sym (get-overlaid ms t.key) ∙ t.is) t.meets)

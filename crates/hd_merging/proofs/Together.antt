@@ -14,6 +14,7 @@ use Rattle.hd_scene.specs.declared.prims.Entry.{Entry}
 use Rattle.hd_merging.specs.Merges.{overlay, first_kind, merged_prim, merged_entry, prims_at, merged_scene}
 use Rattle.hd_merging.specs.inner.MergedScenes.{get-overlaid, get-merged}
 use Rattle.hd_path.specs.Names.{Name}
+use Rattle.hd_path.proofs.Logic.{some_is_not}
 use Rattle.hd_tokens.specs.Locators.{Locator}
 
 -- a container alone
@@ -72,10 +73,7 @@ merged_entry-further (e ∷ es) (f ∷ fs) = ap (λ (d : Entry). Some d) (merged
 
 -- a prim over what weaker ones are together, and over none
 pub laid_on_some : (e f r : Entry) (weaker : List Entry) → Some f ≡ merged_entry weaker → r ≡ merged_prim (e ∷ f ∷ []) → Some r ≡ merged_entry (e ∷ weaker)
-laid_on_some e f r [] is laid = absurd (some_is_not is)
-  where
-    some_is_not : Some f ≡ None → ⊥
-    some_is_not h = cc
+laid_on_some e f r [] is laid = some_is_not f is
 laid_on_some e f r (d ∷ ds) is laid =
     let same : f ≡ merged_prim (d ∷ ds) = cc in
     ap (λ (x : Entry). Some x) (laid ∙ ap (λ (x : Entry). merged_prim (e ∷ x ∷ [])) same ∙ merged_prim-further (e ∷ []) (d ∷ ds))

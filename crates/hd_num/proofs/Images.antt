@@ -1,15 +1,12 @@
 -- Moved points, in range or not.
-use Rattle.std.proofs.Common.{◌≡◌, ◌^◌, Bool, true, false, ◌&&◌, refl, sym, arith, ℤ, List, [], ◌∷◌, IfSome, Option, Some, None, IsTrue, w64, lit<, unsigned_abs, ◌≤◌, if◌then◌else◌}
+use Rattle.std.proofs.Common.{◌≡◌, ◌^◌, Bool, true, false, refl, sym, arith, ℤ, List, [], ◌∷◌, IfSome, Option, Some, None, IsTrue, w64, lit<, unsigned_abs, ◌≤◌, if◌then◌else◌}
 use Rattle.std.specs.List.{list_all}
 use Rattle.std.proofs.lemmas.Int.{to_z-of_z}
+use Rattle.std.proofs.Math.Bool.{and-false}
 use Rattle.hd_num.specs.declared.vector.Vec3.{Vec3}
 use Rattle.hd_num.specs.Matrices.{is_within}
 use Rattle.hd_num.specs.Points.{point_of, components, point_in_range, if_point_in_range}
 use Rattle.hd_num.proofs.Sizes.{kept, fits_up_to}
-
-and_false : (b : Bool) → (b && false) ≡ false
-and_false true = refl
-and_false false = refl
 
 kept_within : (z : ℤ) → IsTrue (is_within (2 ^ 30) z) → kept w64 z ≡ z
 kept_within z h = let size : unsigned_abs z ≤ 2 ^ 30 = grind arith in to_z-of_z w64 z (fits_up_to w64 z (2 ^ 30) size (lit< tt))
@@ -53,12 +50,12 @@ module _ (a b c : ℤ) where
   refused_first e = let out = refused (is_within (2 ^ 30) a) a e in refused_point (a ∷ b ∷ c ∷ []) (rw out refl)
 
   pub refused_second : None ≡ bounded_number b → None ≡ if_point_in_range (point_of (a ∷ b ∷ c ∷ []))
-  refused_second e = let out = refused (is_within (2 ^ 30) b) b e in refused_point (a ∷ b ∷ c ∷ []) (rw out (and_false (is_within (2 ^ 30) a)))
+  refused_second e = let out = refused (is_within (2 ^ 30) b) b e in refused_point (a ∷ b ∷ c ∷ []) (rw out (and-false (is_within (2 ^ 30) a)))
 
   pub refused_third : None ≡ bounded_number c → None ≡ if_point_in_range (point_of (a ∷ b ∷ c ∷ []))
   refused_third e =
       let out = refused (is_within (2 ^ 30) c) c e in
-      refused_point (a ∷ b ∷ c ∷ []) (rw (out, and_false (is_within (2 ^ 30) b), and_false (is_within (2 ^ 30) a)) refl)
+      refused_point (a ∷ b ∷ c ∷ []) (rw (out, and-false (is_within (2 ^ 30) b), and-false (is_within (2 ^ 30) a)) refl)
 
   pub kept_three : (x y z : ℤ) → Some x ≡ bounded_number a → Some y ≡ bounded_number b → Some z ≡ bounded_number c → Some (point_of (kept w64 x ∷ kept w64 y ∷ kept w64 z ∷ [])) ≡ if_point_in_range (point_of (a ∷ b ∷ c ∷ []))
   kept_three x y z ex ey ez =

@@ -1,3 +1,4 @@
+pub mod Logic
 pub mod Bytes
 pub mod Slashes
 pub mod Prefixes

@@ -1,5 +1,5 @@
 -- Lists of names that begin with one another.
-use Rattle.std.proofs.Common.{◌≡◌, ℕ, ◌-◌, ◌≤◌, take, drop, length-drop, Bool, true, false, List, [], ◌∷◌, length, ◌&&◌, ◌||◌, refl, ap, sym, subst, ◌∙◌, arith}
+use Rattle.std.proofs.Common.{◌≡◌, ℕ, ◌-◌, ◌≤◌, take, drop, length-drop, Bool, true, false, List, [], ◌∷◌, ◌++◌, length, ◌&&◌, ◌||◌, refl, ap, sym, subst, ◌∙◌, arith}
 use Rattle.std.proofs.lemmas.List.{take_all}
 use Rattle.std.specs.Cmp.Lexicographic.{bytes_decides}
 use Rattle.std.specs.List.{starts_with}
@@ -72,3 +72,15 @@ whole_prefix (x ∷ a) (y ∷ b) p l =
 -- a slice from a place to the end
 pub slice_to_end : {X : Type 0} (xs : List X) (i : ℕ) → take (length xs - i) (drop i xs) ≡ drop i xs
 slice_to_end xs i = take_all (length xs - i) (drop i xs) (omega (arith, length-drop i xs))
+
+-- what a list has beyond itself is nothing
+pub nothing_left : {X : Type 0} (front rest : List X) → front ≡ front ++ rest → rest ≡ []
+nothing_left [] rest e = sym e
+nothing_left (x ∷ front) rest e = nothing_left front rest cc
+
+-- a list that is not empty is a front and a last item
+pub split_last : {X : Type 0} (x : X) (xs : List X) → (front : List X) × (last : X) × (x ∷ xs ≡ front ++ last ∷ [])
+split_last x [] = ([], x, refl)
+split_last {X} x (y ∷ xs) =
+    let rest = split_last y xs in
+    (x ∷ rest.0, rest.1, ap (λ (z : List X). x ∷ z) rest.2)

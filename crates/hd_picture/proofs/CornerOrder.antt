@@ -1,6 +1,7 @@
 -- The order of a triangle's corners.
 use Rattle.std.proofs.Common.{◌≡◌, ◌≢◌, ◌⊎◌, inl, inr, arith, ap, refl, sym, ◌∙◌, Bool, true, false, cond, ℤ, pos, ◌+ℤ◌, ◌-ℤ◌, ◌*ℤ◌, neg_ℤ, None}
 use Rattle.std.proofs.lemmas.Int.{ints}
+use Rattle.std.specs.Cmp.{both_ways}
 use borrow.Author.Differences.{same_in, sum_is_lem, neg_is, product_is}
 use lib.IntN.{neg_ℤ-neg_ℤ}
 use Rattle.hd_num.specs.declared.vector.Vec3.{Vec3}
@@ -14,7 +15,7 @@ use Rattle.hd_picture.specs.define.Pixels.{fragment}
 use Rattle.hd_picture.specs.define.View.{screen_point}
 use Rattle.hd_picture.specs.inner.Pixels.{fragment_by}
 use Rattle.hd_picture.proofs.FloorDivision.{IsNonNegative}
-use Rattle.hd_picture.proofs.CoverageLemmas.{IsNonPositive, covers_cases, covers_non_negative, covers_non_positive, fragment_is, same_test}
+use Rattle.hd_picture.proofs.CoverageLemmas.{IsNonPositive, covers_cases, covers_non_negative, covers_non_positive, fragment_is}
 use Rattle.hd_picture.proofs.FloorDivision.{floor_both_signs}
 use Rattle.hd_picture.proofs.Integers.{mul-sub, neg-mul, sub-mul}
 
@@ -59,7 +60,7 @@ rotated x y z h = by (covers_cases (corner_weights x y z) h)
     by (inr r) = covers_non_positive (corner_weights y z x) (record { a = r.b; b = r.c; c = r.a; area = (let area = r.area in omega (arith, ints)) })
 
 covers-rotated : (x y z : ℤ) → covers (corner_weights y z x) ≡ covers (corner_weights x y z)
-covers-rotated x y z = same_test (covers (corner_weights y z x)) (covers (corner_weights x y z)) (λ h. rotated z x y (rotated y z x h)) (rotated x y z)
+covers-rotated x y z = both_ways (covers (corner_weights y z x)) (covers (corner_weights x y z)) (λ h. rotated z x y (rotated y z x h)) (rotated x y z)
 
 depth-rotated : (x y z : ℤ) (tri : WorldTri) → depth (corner_weights y z x) (rotation tri) ≡ depth (corner_weights x y z) tri
 unfolding depth
@@ -81,7 +82,7 @@ flipped x y z h = by (covers_cases (corner_weights x y z) h)
     by (inr r) = covers_non_negative (corner_weights (neg_ℤ x) (neg_ℤ z) (neg_ℤ y)) (record { a = omega (arith, ints); b = omega (arith, ints); c = omega (arith, ints); area = omega (arith, ints) })
 
 covers-flipped : (x y z : ℤ) → covers (corner_weights (neg_ℤ x) (neg_ℤ z) (neg_ℤ y)) ≡ covers (corner_weights x y z)
-covers-flipped x y z = same_test (covers (corner_weights (neg_ℤ x) (neg_ℤ z) (neg_ℤ y))) (covers (corner_weights x y z)) back (flipped x y z)
+covers-flipped x y z = both_ways (covers (corner_weights (neg_ℤ x) (neg_ℤ z) (neg_ℤ y))) (covers (corner_weights x y z)) back (flipped x y z)
   where
     back : covers (corner_weights (neg_ℤ x) (neg_ℤ z) (neg_ℤ y)) ≡ true → covers (corner_weights x y z) ≡ true
     back h = rw (neg_ℤ-neg_ℤ x, neg_ℤ-neg_ℤ y, neg_ℤ-neg_ℤ z) at (flipped (neg_ℤ x) (neg_ℤ z) (neg_ℤ y) h)

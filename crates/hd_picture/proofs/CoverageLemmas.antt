@@ -84,12 +84,6 @@ covers_cases w h = by (or_parts _ _ (and_parts _ _ h).1)
         let c : int_le w.c (pos 0) ≡ true = p.1 in
         inr (record { a = omega (arith, ints); b = omega (arith, ints); c = omega (arith, ints); area = omega (arith, ints) })
 
--- two tests that pass in the same cases
-pub same_test : (a b : Bool) → (a ≡ true → b ≡ true) → (b ≡ true → a ≡ true) → a ≡ b
-same_test true b f g = sym (f refl)
-same_test false true f g = g refl
-same_test false false f g = refl
-
 -- what a triangle shows where it covers, and where it does not
 pub fragment_is : (eye : Vec3) (q : ScreenPoint) (tri : WorldTri) → fragment eye q tri ≡ cond (covers (screen_weights eye tri q)) (fragment_by (screen_weights eye tri q) tri eye.z) None
 unfolding fragment

@@ -6,7 +6,7 @@ use Rattle.std.proofs.lemmas.List.Sums.{sum_by-append}
 use Rattle.std.proofs.lemmas.Bool.Decides.{eqb_tells}
 use Rattle.std.specs.List.{count_by}
 use Rattle.hd_registry.specs.declared.content.Entry.{Entry}
-use Rattle.hd_registry.specs.Entries.{Entries, entry_at, content_of, content_at, collected, is_unused, Unique}
+use Rattle.hd_registry.specs.Entries.{Entries, entry_at, content_of, content_at, if_used, is_unused, Unique}
 use Rattle.hd_registry.specs.inner.Indexes.{Index, is_found, IsIndexed}
 
 map_step : {X : Type 0} (f : X → X) (xs : List X) (i : ℕ) (d : X) → i < length xs
@@ -33,8 +33,8 @@ length_before f (x ∷ xs) zero = refl
 length_before f (x ∷ xs) (suc i) = ap suc (length_before f xs i)
 
 -- so what is asked there is asked of the entry as it was
-pub asked_before : {C : Type 0} (initial now : Entries C) (i : ℕ) (r : Bool) → r ≡ is_unused (entry_at now i) → now ≡ map collected (take i initial) ++ drop i initial → r ≡ is_unused (get_or initial i None)
-asked_before {C} initial now i r e h = e ∙ ap (λ (es : Entries C). is_unused (entry_at es i)) h ∙ ap is_unused (next_as_before collected initial i None)
+pub asked_before : {C : Type 0} (initial now : Entries C) (i : ℕ) (r : Bool) → r ≡ is_unused (entry_at now i) → now ≡ map if_used (take i initial) ++ drop i initial → r ≡ is_unused (get_or initial i None)
+asked_before {C} initial now i r e h = e ∙ ap (λ (es : Entries C). is_unused (entry_at es i)) h ∙ ap is_unused (next_as_before if_used initial i None)
 
 -- one more place is counted
 pub count_step : {X : Type 0} (test : X → Bool) (xs : List X) (i : ℕ) (d : X) → i < length xs → count_by test (take (suc i) xs) ≡ count_by test (take i xs) + cond (test (get_or xs i d)) 1 0
@@ -51,24 +51,24 @@ pub counted_none : (b c : Bool) (m n k : ℕ) → c ≡ b → c ≡ false → k 
 counted_none true c m n k e f g h = absurd (cc)
 counted_none false c m n k e f g h = omega arith
 
-pub entry-collected : {C : Type 0} (entries : Entries C) (t : ℕ) → entry_at (map collected entries) t ≡ collected (entry_at entries t)
-entry-collected [] t = refl
-entry-collected (e ∷ entries) zero = refl
-entry-collected (e ∷ entries) (suc t) = entry-collected entries t
+pub entry-if_used : {C : Type 0} (entries : Entries C) (t : ℕ) → entry_at (map if_used entries) t ≡ if_used (entry_at entries t)
+entry-if_used [] t = refl
+entry-if_used (e ∷ entries) zero = refl
+entry-if_used (e ∷ entries) (suc t) = entry-if_used entries t
 
-collected_content : {C : Type 0} (o : Option (Entry C)) (content : C) → content_of (collected o) ≡ Some content → content_of o ≡ Some content
-collected_content None content h = h
-collected_content {C} (Some entry) content h = by (entry.users == 0) h
+content_if_used : {C : Type 0} (o : Option (Entry C)) (content : C) → content_of (if_used o) ≡ Some content → content_of o ≡ Some content
+content_if_used None content h = h
+content_if_used {C} (Some entry) content h = by (entry.users == 0) h
   where
     by : (b : Bool) → content_of (cond b None (Some entry)) ≡ Some content → content_of (Some entry) ≡ Some content
     by true k = absurd (cc)
     by false k = k
 
-pub unique_collected : {C : Type 0} (entries new : Entries C) → new ≡ map collected entries → Unique entries → Unique new
-unique_collected {C} entries new e unique = λ s t content h k. unique s t content (was s content h) (was t content k)
+pub unique_if_used : {C : Type 0} (entries new : Entries C) → new ≡ map if_used entries → Unique entries → Unique new
+unique_if_used {C} entries new e unique = λ s t content h k. unique s t content (was s content h) (was t content k)
   where
     was : (s : ℕ) (content : C) → content_at new s ≡ Some content → content_at entries s ≡ Some content
-    was s content h = collected_content (entry_at entries s) content (sym (ap content_of (ap (λ (es : Entries C). entry_at es s) e ∙ entry-collected entries s)) ∙ h)
+    was s content h = content_if_used (entry_at entries s) content (sym (ap content_of (ap (λ (es : Entries C). entry_at es s) e ∙ entry-if_used entries s)) ∙ h)
 
 -- a place is forgotten that has no entry any more
 pub indexed_without : {C : Type 0} (digest_of : C → ℕ) (old new : Entries C) (place : ℕ) (was now : Index) → place < length old → new ≡ set old place None

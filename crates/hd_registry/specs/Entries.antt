@@ -81,10 +81,10 @@ abbrev pub is_unused : {C : Type 0} → Option (Entry C) → Bool
 is_unused None = false
 is_unused (Some entry) = entry.users == 0
 
--- what is left of an entry
-abbrev pub collected : {C : Type 0} → Option (Entry C) → Option (Entry C)
-collected entry = if is_unused entry then None else entry
+-- an entry where it has users, else none
+abbrev pub if_used : {C : Type 0} → Option (Entry C) → Option (Entry C)
+if_used entry = if is_unused entry then None else entry
 
 -- exactly the entries without users go
 abbrev pub Collects : {C : Type 0} → Entries C → Entries C → Type 0
-Collects old new = (slot : ℕ) → entry_at new slot ≡ collected (entry_at old slot)
+Collects old new = (slot : ℕ) → entry_at new slot ≡ if_used (entry_at old slot)

@@ -2,7 +2,7 @@
 
 ghost use Rattle.std.specs.Prelude.{◌≡◌, ◌<◌, ℕ, length, map, slice_set};
 ghost use Rattle.std.specs.List.{count_by};
-ghost use Rattle.hd_registry.specs.Entries.{entry_at, is_unused, collected};
+ghost use Rattle.hd_registry.specs.Entries.{entry_at, is_unused, if_used};
 ghost use Rattle.hd_registry.specs.inner.Indexes.{IsIndexed};
 
 use crate::content::{Content, Entry};
@@ -15,7 +15,7 @@ pub(crate) fn collect<C: Content>(
     index: &mut HashMap<u64, Vec<usize>>,
 ) -> usize
     requires { IsIndexed C.digest_of entries.old.items index.old }
-    ensures collected { entries.new.items ≡ map collected entries.old.items }
+    ensures entries { entries.new.items ≡ map if_used entries.old.items }
     ensures indexed { IsIndexed C.digest_of entries.new.items index.new }
     ensures count { result ≡ count_by is_unused entries.old.items }
 {
@@ -38,7 +38,7 @@ fn collect_at<C: Content>(
     requires within { place < length entries.old.items }
     requires indexed { IsIndexed C.digest_of entries.old.items index.old }
     ensures dropped { result ≡ is_unused (entry_at entries.old.items place) }
-    ensures entries { entries.new.items ≡ slice_set entries.old.items place (collected (entry_at entries.old.items place)) }
+    ensures entries { entries.new.items ≡ slice_set entries.old.items place (if_used (entry_at entries.old.items place)) }
     ensures indexed { IsIndexed C.digest_of entries.new.items index.new }
 {
     let digest = match &entries[place] {

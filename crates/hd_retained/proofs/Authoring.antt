@@ -18,13 +18,14 @@ use Rattle.hd_value.specs.inner.Falls.{locators_total, locators_tie}
 use Rattle.hd_schema.specs.Places.{is_at}
 use Rattle.hd_schema.specs.Authored.{property_value, authored_at, with_property}
 use Rattle.hd_schema.proofs.Apart.{names_apart}
-use Rattle.hd_schema.proofs.Lookups.{found_passes, some_is_not}
+use Rattle.hd_schema.proofs.Lookups.{found_passes}
 use Rattle.hd_schema.proofs.Putting.{Holds, standing, located_stands, is_prefix_self, put_holds, none_held}
 use Rattle.hd_schema.proofs.Sorting.{IsOnce, has_name, distinct_once, once_new}
 use Rattle.hd_retained.specs.Layers.{Properties, named_value, properties_of, property_of, property_list, container_of}
 use Rattle.hd_scene.proofs.Ascending.{is_less}
 use Rattle.hd_path.specs.Paths.{Path}
 use Rattle.hd_path.specs.Names.{Name}
+use Rattle.hd_path.proofs.Logic.{some_is_not}
 
 abbrev name_cmp : List ℕ → List ℕ → Ordering
 name_cmp = slice_cmp nat_cmp

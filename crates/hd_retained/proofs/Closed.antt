@@ -1,6 +1,6 @@
 -- Edits keep each prim below its parent.
 use Rattle.std.proofs.Common.{◌≡◌, ◌≢◌, ℕ, ◌+◌, ◌-◌, Bool, true, false, not, cond, ◌&&◌, ◌||◌, nat_le, List, [], ◌∷◌, ◌++◌, length, length-append, append_assoc, take, Option, Some, None, Result, Ok, Err, if◌then◌else◌, is_some, refl, sym, ◌∙◌, ap, subst, arith}
-use Rattle.std.proofs.lemmas.Bool.{leb-true}
+use Rattle.std.proofs.lemmas.Bool.{leb-true, not-true}
 use Rattle.std.specs.Option.{option_map}
 use Rattle.std.specs.Ordering.{eq_by_cmp}
 use Rattle.std.specs.FinMap.{get, contains_key, insert, retain_keys, get-insert, get-retain_keys, same_map}
@@ -8,9 +8,8 @@ use Rattle.std.specs.BTreeMap as tree
 use Rattle.std.specs.BTreeMap.{BTreeMap}
 use Rattle.hd_path.specs.Paths.{Path, IsPath, path_cmp, is_prefix}
 use Rattle.hd_path.specs.Names.{Name, is_same}
-use Rattle.hd_path.proofs.NamePrefixes.{same_itself, prefix_of_prefix}
-use Rattle.hd_schema.proofs.Lookups.{and_true}
-use Rattle.hd_scene.specs.declared.prims.Entry.{Entry}
+use Rattle.hd_path.proofs.NamePrefixes.{same_itself, prefix_of_prefix, and_true}
+use Rattle.hd_path.proofs.Logic.{none_there}
 use Rattle.hd_scene.specs.Scenes.{IsClosed}
 use Rattle.hd_scene.proofs.Children.{path_cmp_total, path_cmp_exact, take-front}
 use Rattle.hd_scene.proofs.Closing.{insert_closed}
@@ -72,14 +71,10 @@ pub closed_by : (layer : Layer) → is_some (get layer []) ≡ false
     → ((path : Path) (name below : Name) → is_some (get layer (path ++ name ∷ below ∷ [])) ≡ true → is_some (get layer (path ++ name ∷ [])) ≡ true)
     → ((path : Path) → is_some (get layer path) ≡ true → IsPath path) → IsClosed (scene_of layer)
 closed_by layer no_root parents paths = record {
-  no_root = none (get (scene_of layer) []) (scene_has layer [] ∙ no_root);
+  no_root = none_there (get (scene_of layer) []) (scene_has layer [] ∙ no_root);
   parents = λ path name below there. scene_has layer (path ++ name ∷ []) ∙ parents path name below (sym (scene_has layer (path ++ name ∷ below ∷ [])) ∙ there);
   paths = λ path there. paths path (sym (scene_has layer path) ∙ there);
 }
-  where
-    none : (o : Option Entry) → is_some o ≡ false → o ≡ None
-    none None h = refl
-    none (Some x) h = cc
 
 -- and the other way round
 pub record HasParents (layer : Layer) : Type 0 where
@@ -121,10 +116,6 @@ parent_apart at path name below apart =
       | false ↦ λ _. refl
     ] refl
 
-not_false : (b : Bool) → not b ≡ true → b ≡ false
-not_false true e = sym e
-not_false false e = refl
-
 pub remove_closed : (layer : Layer) (path : Path) → IsClosed (scene_of layer) → IsClosed (scene_of (retain_keys layer (λ p. not (is_prefix path p))))
 remove_closed layer path closed =
     let own = has_parents layer closed in
@@ -133,7 +124,7 @@ remove_closed layer path closed =
     (λ q name below there.
     let both = and_true (not (is_prefix path (q ++ name ∷ below ∷ []))) (is_some (get layer (q ++ name ∷ below ∷ []))) (sym (has_left layer path (q ++ name ∷ below ∷ [])) ∙ there) in
     has_left layer path (q ++ name ∷ [])
-    ∙ and_is (not (is_prefix path (q ++ name ∷ []))) (is_some (get layer (q ++ name ∷ []))) (ap not (parent_apart path q name below (not_false (is_prefix path (q ++ name ∷ below ∷ [])) both.0))) (own.parents q name below both.1))
+    ∙ and_is (not (is_prefix path (q ++ name ∷ []))) (is_some (get layer (q ++ name ∷ []))) (ap not (parent_apart path q name below (not-true (is_prefix path (q ++ name ∷ below ∷ [])) both.0))) (own.parents q name below both.1))
     (λ q there. own.paths q (and_true (not (is_prefix path q)) (is_some (get layer q)) (sym (has_left layer path q) ∙ there)).1)
   where
     never : (b : Bool) → (b && false) ≡ false

@@ -14,8 +14,9 @@ use Rattle.std.specs.Ordering.{eq_by_cmp}
 use Rattle.std.specs.FinMap.{get, keys, get-insert, contains_key-keys}
 use Rattle.std.specs.BTreeMap as tree
 use Rattle.std.specs.BTreeMap.{BTreeMap}
-use Rattle.hd_schema.proofs.Lookups.{and_true, true_is_not}
 use Rattle.hd_path.specs.Paths.{Path, path_cmp, is_prefix}
+use Rattle.hd_path.proofs.Logic.{true_is_not}
+use Rattle.hd_path.proofs.NamePrefixes.{and_true}
 use Rattle.hd_scene.proofs.Children.{path_cmp_total}
 use Rattle.hd_scene.proofs.Closing.{tied}
 use Rattle.hd_retained.specs.declared.fault.EditFault.{EditFault}

@@ -13,9 +13,9 @@ use Rattle.std.specs.Ordering.{nat_cmp, is_le, ordering_then, ordering_reverse}
 use Rattle.std.specs.declared.cmp.Ordering.{Ordering}
 use Rattle.std.specs.declared.cmp.Ordering.TheVariants.{Less, Equal, Greater}
 use Rattle.hd_path.specs.Names.{is_same}
-use Rattle.hd_path.proofs.NamePrefixes.{same_text, same_itself}
-use Rattle.hd_schema.proofs.Lookups.{and_true, true_is_not}
+use Rattle.hd_path.proofs.NamePrefixes.{same_text, same_itself, and_true}
 use Rattle.hd_path.specs.Paths.{Path, path_cmp, is_prefix}
+use Rattle.hd_path.proofs.Logic.{true_is_not}
 use Rattle.hd_retained.specs.declared.stored.DepthKey.{DepthKey}
 use Rattle.hd_retained.specs.declared.stored.StoredPrim.{StoredPrim}
 use Rattle.hd_retained.specs.inner.Indexed.{depth_key_cmp, is_at_depth}

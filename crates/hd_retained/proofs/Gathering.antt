@@ -23,8 +23,8 @@ use Rattle.std.specs.BTreeMap as tree
 use Rattle.std.specs.BTreeMap.{BTreeMap}
 use Rattle.hd_path.specs.Paths.{Path, IsPath, path_cmp, is_prefix}
 use Rattle.hd_path.specs.Names.{Name, is_same}
-use Rattle.hd_path.proofs.NamePrefixes.{same_itself}
-use Rattle.hd_schema.proofs.Lookups.{and_true, true_is_not}
+use Rattle.hd_path.proofs.NamePrefixes.{same_itself, and_true}
+use Rattle.hd_path.proofs.Logic.{true_is_not}
 use Rattle.hd_scene.specs.declared.prims.Entry.{Entry}
 use Rattle.hd_scene.specs.Scenes.{Scene, child_name, children_of}
 use Rattle.hd_scene.proofs.Ascending.{entries-from_entries}

@@ -1,6 +1,6 @@
 -- A list of properties with one of them changed.
 use Rattle.std.proofs.Common.{◌≡◌, ◌≢◌, ℕ, Bool, true, false, not, cond, ◌&&◌, ◌||◌, List, [], ◌∷◌, ◌++◌, map, filter, Option, Some, None, Result, Ok, Err, IfOk, length, refl, sym, ◌∙◌, ap, arith}
-use Rattle.std.proofs.lemmas.Bool.{lt-ltb}
+use Rattle.std.proofs.lemmas.Bool.{lt-ltb, not-true}
 use Rattle.std.proofs.lemmas.Cmp.{eq_by_cmp_equiv}
 use Rattle.std.proofs.lemmas.List.{map-append}
 use Rattle.std.specs.Cmp.Lexicographic.{slice_cmp, bytes_decides, nat_list_cmp_total, texts_ties}
@@ -14,13 +14,14 @@ use Rattle.hd_layer.specs.declared.spec.PrimSpec.{PrimSpec}
 use Rattle.hd_layer.specs.declared.spec.RawValue.{RawValue}
 use Rattle.hd_layer.specs.WellFormed.{is_below_root, is_property, is_prim_spec, are_distinct}
 use Rattle.hd_schema.proofs.Putting.{Holds, none_held}
-use Rattle.hd_schema.proofs.Lookups.{and_true, true_is_not}
 use Rattle.hd_retained.specs.declared.stored.StoredPrim.{StoredPrim}
 use Rattle.hd_retained.specs.Layers.{Properties, LayerPrim, named_value, properties_of, container_of}
 use Rattle.hd_retained.specs.inner.Indexed.{IsStored, prim_of}
 use Rattle.hd_retained.proofs.Authoring.{container_is}
 use Rattle.hd_path.specs.Paths.{Path}
 use Rattle.hd_path.specs.Names.{Name}
+use Rattle.hd_path.proofs.Logic.{true_is_not}
+use Rattle.hd_path.proofs.NamePrefixes.{and_true}
 
 pub and_is : (a b : Bool) → a ≡ true → b ≡ true → (a && b) ≡ true
 and_is a b p q = ap (λ t. t && b) p ∙ q
@@ -57,16 +58,12 @@ fewer_named test name (p ∷ ps) h =
       ]
     ] refl h
 
-not_false : (b : Bool) → not b ≡ true → b ≡ false
-not_false true e = sym e
-not_false false e = refl
-
 pub distinct_filter : (test : Property → Bool) (ps : List Property) → are_distinct (names ps) ≡ true → are_distinct (names (filter test ps)) ≡ true
 distinct_filter test [] h = refl
 distinct_filter test (p ∷ ps) h =
     let both = and_true (not (list_any (bytes_eq p.name) (names ps))) (are_distinct (names ps)) h in
     elim (test p) as (λ b. are_distinct (names (cond b (p ∷ filter test ps) (filter test ps))) ≡ true) [
-      | true ↦ and_is (not (list_any (bytes_eq p.name) (names (filter test ps)))) (are_distinct (names (filter test ps))) (ap not (fewer_named test p.name ps (not_false (list_any (bytes_eq p.name) (names ps)) both.0))) (distinct_filter test ps both.1)
+      | true ↦ and_is (not (list_any (bytes_eq p.name) (names (filter test ps)))) (are_distinct (names (filter test ps))) (ap not (fewer_named test p.name ps (not-true (list_any (bytes_eq p.name) (names ps)) both.0))) (distinct_filter test ps both.1)
       | false ↦ distinct_filter test ps both.1
     ]
 
@@ -95,7 +92,7 @@ distinct_last (x ∷ ps) p h new =
     let both = and_true (not (list_any (bytes_eq x.name) (names ps))) (are_distinct (names ps)) h in
     let apart = or_parts (bytes_eq p.name x.name) (list_any (bytes_eq p.name) (names ps)) new in
     and_is (not (list_any (bytes_eq x.name) (names (ps ++ p ∷ [])))) (are_distinct (names (ps ++ p ∷ [])))
-    (ap not (named_last x.name ps p (not_false (list_any (bytes_eq x.name) (names ps)) both.0) (bytes_turned p.name x.name apart.0)))
+    (ap not (named_last x.name ps p (not-true (list_any (bytes_eq x.name) (names ps)) both.0) (bytes_turned p.name x.name apart.0)))
     (distinct_last ps p both.1 apart.1)
 
 -- among the others none has the name

@@ -7,11 +7,12 @@ use Rattle.std.specs.List.{AllByRecursion}
 use Rattle.std.specs.Map.{keys_of}
 use Rattle.std.specs.Ordering.{eq_by_cmp}
 use Rattle.std.specs.FinMap.{get, find, entries, keys, contains_key-keys, from_entries, get-entries, get-from_entries}
+use Rattle.std.specs.Cmp.{both_ways}
 use Rattle.hd_path.specs.Names.{Name, is_same}
-use Rattle.hd_path.proofs.NamePrefixes.{same_text}
-use Rattle.hd_schema.proofs.Lookups.{and_true, true_is_not}
+use Rattle.hd_path.proofs.NamePrefixes.{same_text, and_true}
 use Rattle.hd_path.specs.Paths.{Path, path_cmp, is_prefix}
-use Rattle.hd_scene.proofs.Children.{same_answer, path_cmp_total}
+use Rattle.hd_path.proofs.Logic.{true_is_not}
+use Rattle.hd_scene.proofs.Children.{path_cmp_total}
 use Rattle.hd_scene.proofs.Closing.{tied}
 use Rattle.hd_retained.specs.Layers.{LayerPrim, Layer}
 use Rattle.hd_retained.specs.Edits.{moved_path, moved_prim}
@@ -74,7 +75,7 @@ found_in : (from to : Path) (es : List (Path × LayerPrim)) (q : Path) → IsApa
 found_in from to [] q apart begins = refl
 found_in from to (e ∷ es) q apart begins =
     ap (λ b. cond b (Some e.1) (find path_cmp q (map (moved_prim from to) es)))
-    (same_answer (eq_by_cmp path_cmp q (moved_path from to e.0)) (eq_by_cmp path_cmp (moved_path to from q) e.0)
+    (both_ways (eq_by_cmp path_cmp q (moved_path from to e.0)) (eq_by_cmp path_cmp (moved_path to from q) e.0)
     (λ h. eq_is (moved_path to from q) e.0 (forth (tied q (moved_path from to e.0) h)))
     (λ h. eq_is q (moved_path from to e.0) (back (tied (moved_path to from q) e.0 h))))
     ∙ ap (cond (eq_by_cmp path_cmp (moved_path to from q) e.0) (Some e.1)) (found_in from to es q apart.1 begins)

@@ -9,8 +9,8 @@ use Rattle.std.specs.List.{AllByRecursion, list_all, list_any}
 use Rattle.std.specs.List.Sorted.{IsStrictlySortedBy}
 use Rattle.std.specs.Ordering.{nat_cmp, eq_by_cmp, ordering_then}
 use Rattle.std.specs.declared.cmp.Ordering.TheVariants.{Less}
-use Rattle.hd_schema.proofs.Lookups.{and_true}
 use Rattle.hd_path.specs.Paths.{path_cmp, is_prefix}
+use Rattle.hd_path.proofs.NamePrefixes.{and_true}
 use Rattle.hd_scene.proofs.Children.{path_cmp_total}
 use Rattle.hd_scene.proofs.Closing.{tied}
 use Rattle.hd_retained.specs.declared.stored.DepthKey.{DepthKey}

@@ -8,8 +8,8 @@ use Rattle.std.specs.FinMap.{get, contains_key, keys, contains_key-keys}
 use Rattle.hd_path.specs.Names.{Name, IsName, is_same}
 use Rattle.hd_path.specs.Paths.{Path, IsPath, path_cmp, is_prefix}
 use Rattle.hd_layer.specs.declared.limits.Which.TheVariants.{Depth}
-use Rattle.hd_path.proofs.NamePrefixes.{same_text, same_itself}
-use Rattle.hd_schema.proofs.Lookups.{and_true, true_is_not}
+use Rattle.hd_path.proofs.NamePrefixes.{same_text, same_itself, and_true, split_last}
+use Rattle.hd_path.proofs.Logic.{true_is_not}
 use Rattle.hd_scene.specs.Scenes.{IsClosed}
 use Rattle.hd_scene.proofs.Closing.{tied}
 use Rattle.hd_retained.specs.declared.fault.EditFault.{EditFault}
@@ -20,12 +20,6 @@ use Rattle.hd_retained.specs.inner.Indexed.{CanMove}
 use Rattle.hd_retained.specs.Laws.{IsMoved}
 use Rattle.hd_retained.proofs.Closed.{HasParents, has_parents, closed_by, parent_apart, parent_there, front_prefix}
 use Rattle.hd_retained.proofs.Moving.{IsFree, renamed, get-renamed, moved_in, moved_prefix, moved_back, prefix_split, drop_front}
-
-split_last : (x : Name) (path : Path) → (front : Path) × (last : Name) × (x ∷ path ≡ front ++ last ∷ [])
-split_last x [] = ([], x, refl)
-split_last x (y ∷ path) =
-    let rest = split_last y path in
-    (x ∷ rest.0, rest.1, ap (λ (z : Path). x ∷ z) rest.2)
 
 -- where a prim is, one is at each path above it
 above_one : (layer : Layer) (path : Path) (name : Name) → HasParents layer → path ≢ [] → is_some (get layer (path ++ name ∷ [])) ≡ true → is_some (get layer path) ≡ true

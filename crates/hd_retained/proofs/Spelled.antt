@@ -16,8 +16,9 @@ use Rattle.std.specs.BTreeMap.{BTreeMap}
 use Rattle.hd_layer.specs.declared.spec.PrimSpec.{PrimSpec}
 use Rattle.hd_layer.specs.declared.spec.LayerSpec.{LayerSpec}
 use Rattle.hd_layer.specs.WellFormed.{is_layer, is_prim_spec, is_below_root, is_property, are_distinct, ascend, has_parent}
-use Rattle.hd_schema.proofs.Lookups.{and_true, true_is_not}
 use Rattle.hd_path.specs.Paths.{Path, IsPath, path_cmp}
+use Rattle.hd_path.proofs.Logic.{true_is_not}
+use Rattle.hd_path.proofs.NamePrefixes.{and_true}
 use Rattle.hd_schema.specs.Authored.{authored_at}
 use Rattle.hd_scene.specs.Scenes.{kind_at, value_at, IsClosed}
 use Rattle.hd_scene.specs.declared.prims.Entry.{Entry}

@@ -7,13 +7,14 @@ use Rattle.std.specs.List.Sorted.{IsStrictlySortedBy}
 use Rattle.std.specs.Ordering.{nat_cmp, eq_by_cmp, ordering_then}
 use Rattle.std.specs.declared.cmp.Ordering.{Ordering}
 use Rattle.std.specs.declared.cmp.Ordering.TheVariants.{Less, Equal, Greater}
-use Rattle.std.specs.Cmp.{IsTotalOrder, tied_itself}
+use Rattle.std.specs.Cmp.{IsTotalOrder, tied_itself, both_ways}
 use Rattle.std.specs.Cmp.Lexicographic.{slice_cmp, nat_list_cmp_total, texts_ties}
 use Rattle.std.specs.FinMap.{get, keys, contains_key-keys, slice_cmp-IsAntisymmetric, nat_cmp-IsAntisymmetric, IsAntisymmetric}
+use Rattle.std.proofs.Math.Bool.{and-true, and-false, or-true}
 use Rattle.hd_path.specs.inner.Comparing.{names_ties}
 use Rattle.hd_path.specs.Paths.{Path, path_cmp}
 use Rattle.hd_path.specs.Names.{Name, is_same}
-use Rattle.hd_path.proofs.NamePrefixes.{same_text, same_itself}
+use Rattle.hd_path.proofs.NamePrefixes.{same_text, same_itself, split_last}
 use Rattle.hd_scene.specs.Scenes.{Scene, child_name, children_of, AreChildren, IsClosed}
 use Rattle.hd_scene.specs.Tells.{is_same_path}
 use Rattle.hd_scene.proofs.Ascending.{keys_ascend, same_ascending}
@@ -71,18 +72,10 @@ abbrev is_named : List ℕ → Option (List ℕ) → Bool
 is_named name None = false
 is_named name (Some other) = is_same name other
 
-and_true : (a : Bool) → (a && true) ≡ a
-and_true true = refl
-and_true false = refl
-
-and_false : (a : Bool) → (a && false) ≡ false
-and_false true = refl
-and_false false = refl
-
 child_test : (path key : Path) (name : Name) → is_same_path (path ++ name ∷ []) key ≡ is_named name (child_name path key)
 child_test [] [] name = refl
-child_test [] (x ∷ []) name = and_true (is_same name x)
-child_test [] (x ∷ y ∷ key) name = and_false (is_same name x)
+child_test [] (x ∷ []) name = and-true (is_same name x)
+child_test [] (x ∷ y ∷ key) name = and-false (is_same name x)
 child_test (x ∷ path) [] name = refl
 child_test (x ∷ path) (y ∷ key) name =
     elim (is_same x y) as (λ b. (b && is_same_path (path ++ name ∷ []) key) ≡ is_named name (if b then child_name path key else None)) [
@@ -104,11 +97,7 @@ child_among path (k ∷ ks) name =
 any_of : (name : Name) (names : List Name) (k : ℕ) → k < length names → slice_index_or names k name ≡ name → list_any (is_same name) names ≡ true
 any_of name [] k l e = absurd (omega arith)
 any_of name (x ∷ names) zero l e = ap (λ b. b || list_any (is_same name) names) (ap (is_same name) e ∙ same_itself name)
-any_of name (x ∷ names) (suc k) l e = ap (λ b. is_same name x || b) (any_of name names k (omega arith) e) ∙ or_true (is_same name x)
-  where
-    or_true : (b : Bool) → (b || true) ≡ true
-    or_true true = refl
-    or_true false = refl
+any_of name (x ∷ names) (suc k) l e = ap (λ b. is_same name x || b) (any_of name names k (omega arith) e) ∙ or-true (is_same name x)
 
 -- whether a child is there, by its name among those of the children
 pub child_there : (scene : Scene) (path : Path) (name : Name) → is_some (get scene (path ++ name ∷ [])) ≡ list_any (is_same name) (children_of scene path)
@@ -125,12 +114,6 @@ AreChildren-children_of scene path = record {
       (λ c. child_there scene path name ∙ among.0 c, λ t. among.1 (sym (child_there scene path name) ∙ t));
 }
 
--- two tests that imply each other give one answer
-pub same_answer : (a b : Bool) → (a ≡ true → b ≡ true) → (b ≡ true → a ≡ true) → a ≡ b
-same_answer true b f g = sym (f refl)
-same_answer false true f g = g refl
-same_answer false false f g = refl
-
 pub children_of-unique : (scene : Scene) (path : Path) (names : List Name) → AreChildren scene path names → names ≡ children_of scene path
 children_of-unique scene path names are =
     let own = AreChildren-children_of scene path in
@@ -139,19 +122,12 @@ children_of-unique scene path names are =
     let mine = contains_any names q in
     let others = contains_any (children_of scene path) q in
     sym (by_same q names)
-    ∙ same_answer (list_any (is_same q) names) (list_any (is_same q) (children_of scene path)) (λ h. others.0 ((own.there q).1 ((are.there q).0 (mine.1 h)))) (λ h. mine.0 ((are.there q).1 ((own.there q).0 (others.1 h))))
+    ∙ both_ways (list_any (is_same q) names) (list_any (is_same q) (children_of scene path)) (λ h. others.0 ((own.there q).1 ((are.there q).0 (mine.1 h)))) (λ h. mine.0 ((are.there q).1 ((own.there q).0 (others.1 h))))
     ∙ by_same q (children_of scene path))
   where
     by_same : (q : List ℕ) (xs : List (List ℕ)) → list_any (is_same q) xs ≡ list_any (eq_by_cmp (slice_cmp nat_cmp) q) xs
     by_same q [] = refl
     by_same q (x ∷ xs) = ap (λ b. b || list_any (is_same q) xs) (texts_ties q x) ∙ ap (λ b. eq_by_cmp (slice_cmp nat_cmp) q x || b) (by_same q xs)
-
--- a path other than the root is a parent and a name
-split_last : (x : Name) (path : Path) → (front : Path) × (last : Name) × (x ∷ path ≡ front ++ last ∷ [])
-split_last x [] = ([], x, refl)
-split_last x (y ∷ path) =
-    let rest = split_last y path in
-    (x ∷ rest.0, rest.1, ap (λ (z : List (List ℕ)). x ∷ z) rest.2)
 
 pub children_of-absent : (scene : Scene) (path : Path) → IsClosed scene → path ≢ [] → get scene path ≡ None → children_of scene path ≡ []
 children_of-absent scene [] closed no_root absent = absurd (no_root refl)

@@ -1,14 +1,16 @@
 -- Scenes stay closed.
-use Rattle.std.proofs.Common.{◌≡◌, ◌≢◌, Bool, true, false, cond, ◌||◌, [], ◌∷◌, ◌++◌, Option, Some, None, is_some, IsSome, refl, sym, ◌∙◌, ap, subst}
+use Rattle.std.proofs.Common.{◌≡◌, ◌≢◌, Bool, true, false, cond, ◌||◌, [], ◌∷◌, ◌++◌, Some, is_some, IsSome, refl, sym, ◌∙◌, ap, subst}
 use Rattle.std.specs.Ordering.{eq_by_cmp, is_eq}
 use Rattle.std.specs.declared.cmp.Ordering.{Ordering}
 use Rattle.std.specs.declared.cmp.Ordering.TheVariants.{Less, Equal, Greater}
 use Rattle.std.specs.FinMap.{get, insert, get-insert}
+use Rattle.std.proofs.Math.Bool.{or-true}
 use Rattle.hd_path.specs.Paths.{Path, IsPath, path_cmp}
 use Rattle.hd_scene.specs.Scenes.{Scene, IsClosed}
 use Rattle.hd_scene.specs.declared.prims.Entry.{Entry}
 use Rattle.hd_scene.proofs.Children.{path_cmp_total, path_cmp_exact}
 use Rattle.hd_path.specs.Names.{Name}
+use Rattle.hd_path.proofs.Logic.{none_there, either}
 
 -- a comparison that ties says that both are equal
 pub is_equal : (r : Ordering) → is_eq r ≡ true → r ≡ Equal
@@ -32,10 +34,10 @@ pub insert_closed : (scene : Scene) (at : Path) (e : Entry) → IsClosed scene �
     → ((front : Path) (name below : Name) → at ≡ front ++ name ∷ below ∷ [] → IsSome (get scene (front ++ name ∷ [])))
     → IsClosed (insert scene at e)
 insert_closed scene at e closed no_root is_path parent = record {
-  no_root = none (get (insert scene at e) []) (there-insert scene at e [] ∙ ap (λ b. b || is_some (get scene [])) (off_root at no_root) ∙ ap is_some closed.no_root);
+  no_root = none_there (get (insert scene at e) []) (there-insert scene at e [] ∙ ap (λ b. b || is_some (get scene [])) (off_root at no_root) ∙ ap is_some closed.no_root);
   parents = λ path name below there.
       kept (path ++ name ∷ [])
-      (either (eq_by_cmp path_cmp (path ++ name ∷ below ∷ []) at) (is_some (get scene (path ++ name ∷ below ∷ []))) (is_some (get scene (path ++ name ∷ [])))
+      (either (eq_by_cmp path_cmp (path ++ name ∷ below ∷ []) at) (is_some (get scene (path ++ name ∷ below ∷ [])))
       (λ same. parent path name below (sym (tied (path ++ name ∷ below ∷ []) at same)))
       (closed.parents path name below)
       (sym (there-insert scene at e (path ++ name ∷ below ∷ [])) ∙ there));
@@ -46,21 +48,9 @@ insert_closed scene at e closed no_root is_path parent = record {
       ] refl (sym (there-insert scene at e path) ∙ there);
 }
   where
-    none : (o : Option Entry) → is_some o ≡ false → o ≡ None
-    none None h = refl
-    none (Some x) h = cc
-
     off_root : (q : Path) → q ≢ [] → eq_by_cmp path_cmp [] q ≡ false
     off_root [] h = absurd (h refl)
     off_root (x ∷ q) h = refl
 
-    or_true : (b : Bool) → (b || true) ≡ true
-    or_true true = refl
-    or_true false = refl
-
     kept : (p : Path) → is_some (get scene p) ≡ true → is_some (get (insert scene at e) p) ≡ true
-    kept p h = there-insert scene at e p ∙ ap (λ b. eq_by_cmp path_cmp p at || b) h ∙ or_true (eq_by_cmp path_cmp p at)
-
-    either : (a b c : Bool) → (a ≡ true → c ≡ true) → (b ≡ true → c ≡ true) → (a || b) ≡ true → c ≡ true
-    either true b c f g h = f refl
-    either false b c f g h = g h
+    kept p h = there-insert scene at e p ∙ ap (λ b. eq_by_cmp path_cmp p at || b) h ∙ or-true (eq_by_cmp path_cmp p at)

@@ -5,6 +5,7 @@ use Rattle.std.specs.Ordering.{eq_by_cmp}
 use Rattle.std.specs.FinMap.{get, find, entries, get-from_entries, get-entries}
 use Rattle.std.proofs.lemmas.Map.Views.{tells_apart}
 use Rattle.hd_path.specs.Paths.{Path, path_cmp}
+use Rattle.hd_path.proofs.Logic.{none_there}
 use Rattle.hd_scene.specs.Scenes.{Scene, IsClosed, with_each_prim}
 use Rattle.hd_scene.specs.declared.prims.Entry.{Entry}
 use Rattle.hd_scene.proofs.Children.{path_cmp_total, path_cmp_exact}
@@ -27,14 +28,10 @@ pub is_some-map : {A B : Type 0} (f : A → B) (o : Option A) → is_some (optio
 is_some-map f None = refl
 is_some-map f (Some x) = refl
 
-none : (o : Option Entry) → is_some o ≡ false → o ≡ None
-none None h = refl
-none (Some e) h = cc
-
 -- a scene with the paths of a closed one is closed
 pub same_paths_closed : (old new : Scene) → ((q : Path) → is_some (get new q) ≡ is_some (get old q)) → IsClosed old → IsClosed new
 same_paths_closed old new there closed = record {
-  no_root = none (get new []) (there [] ∙ ap is_some closed.no_root);
+  no_root = none_there (get new []) (there [] ∙ ap is_some closed.no_root);
   parents = λ path name below has. there (path ++ name ∷ []) ∙ closed.parents path name below (sym (there (path ++ name ∷ below ∷ [])) ∙ has);
   paths = λ path has. closed.paths path (sym (there path) ∙ has);
 }

@@ -8,12 +8,14 @@ use Rattle.std.specs.List.{AllByRecursion, list_any}
 use Rattle.std.specs.List.Sorted.{IsStrictlySortedBy}
 use Rattle.std.specs.Ordering.{eq_by_cmp, ordering_then}
 use Rattle.std.specs.declared.cmp.Ordering.TheVariants.{Less}
-use Rattle.std.specs.Cmp.{eq_by_cmp_equiv, tied_itself}
+use Rattle.std.specs.Cmp.{eq_by_cmp_equiv, tied_itself, both_ways}
 use Rattle.std.specs.Cmp.Lexicographic.{nat_list_cmp_total}
 use Rattle.std.specs.FinMap.{get, keys, contains_key-keys}
+use Rattle.std.proofs.Math.Bool.{and-false}
 use Rattle.hd_path.specs.Names.{Name, byte_order, is_same}
 use Rattle.hd_path.specs.Paths.{Path, path_cmp, is_prefix}
 use Rattle.hd_path.proofs.NamePrefixes.{and_true, same_text, same_itself, prefix_of_prefix}
+use Rattle.hd_path.proofs.Logic.{false_is_not, either}
 use Rattle.hd_scene.specs.Scenes.{Scene, children_of, IsClosed}
 use Rattle.hd_scene.specs.inner.Walks.{AppendsBelow}
 use Rattle.hd_scene.proofs.Ascending.{keys_ascend, same_ascending}
@@ -22,19 +24,6 @@ use Rattle.hd_scene.proofs.Children.{path_cmp_total, path_cmp_exact, child_there
 -- whether a path is one of these
 abbrev pub is_among : Path → List Path → Bool
 is_among q paths = list_any (eq_by_cmp path_cmp q) paths
-
--- two tests that imply each other give one answer
-same_test : (a b : Bool) → (a ≡ true → b ≡ true) → (b ≡ true → a ≡ true) → a ≡ b
-same_test true b f g = sym (f refl)
-same_test false true f g = g refl
-same_test false false f g = refl
-
-false_is_not : {A : Type 0} → false ≡ true → A
-false_is_not h = absurd (cc)
-
-either : (a b : Bool) {P : Type 0} → (a ≡ true → P) → (b ≡ true → P) → (a || b) ≡ true → P
-either true b f g h = f refl
-either false b f g h = g h
 
 first_true : (a b : Bool) → a ≡ true → (a || b) ≡ true
 first_true a b h = ap (λ c. c || b) h
@@ -84,7 +73,7 @@ some_below path (x ∷ names) q h = either (is_prefix (path ++ x ∷ []) q) (lis
 -- a prim at or below a path is there, or at or below one of its children
 at_or_below : (scene : Scene) → IsClosed scene → (path q : Path) → is_some (get scene q) ≡ true
     → is_prefix path q ≡ (eq_by_cmp path_cmp q path || list_any (λ name. is_prefix (path ++ name ∷ []) q) (children_of scene path))
-at_or_below scene closed path q there = same_test _ _ down up
+at_or_below scene closed path q there = both_ways _ _ down up
   where
     by : (rest : Path) → q ≡ path ++ rest → (eq_by_cmp path_cmp q path || list_any (λ name. is_prefix (path ++ name ∷ []) q) (children_of scene path)) ≡ true
     by [] is = first_true _ _ (ap (λ (z : Path). eq_by_cmp path_cmp z path) (is ∙ append-nil path) ∙ tied_path path)
@@ -158,16 +147,12 @@ nothing_ascends : IsStrictlySortedBy path_cmp []
 unfolding IsStrictlySortedBy
 nothing_ascends = tt
 
-and_false : (b : Bool) → (b && false) ≡ false
-and_false true = refl
-and_false false = refl
-
 pub appends_none : (scene : Scene) (path : Path) (paths : List Path) → AppendsBelow scene path [] paths paths
 appends_none scene path paths = record {
   added = [];
   appended = sym (append-nil paths);
   ascending = nothing_ascends;
-  members = λ q. sym (and_false (is_some (get scene q)));
+  members = λ q. sym (and-false (is_some (get scene q)));
 }
 
 prefix_short : (p q : Path) → is_prefix p q ≡ true → length p ≤ length q

@@ -11,7 +11,9 @@ use Rattle.hd_tokens.specs.Locators.{Locator, op_at}
 use Rattle.hd_tokens.specs.Properties.{UsedProperty, property, used_properties, begins_op, op_kind_of, op_property, named_property, property_of, locator_of}
 use Rattle.hd_path.specs.Paths.{is_prefix}
 use Rattle.hd_path.specs.Names.{is_same}
-use Rattle.hd_schema.proofs.Lookups.{and_true, true_is_not, found_passes, found_in, mapped}
+use Rattle.hd_path.proofs.Logic.{true_is_not}
+use Rattle.hd_path.proofs.NamePrefixes.{and_true}
+use Rattle.hd_schema.proofs.Lookups.{found_passes, found_in, mapped}
 
 -- the row of a name is in the table, or is that of an op
 pub record IsNamed (name : List ℕ) (r : UsedProperty) : Type 0 where

@@ -6,6 +6,8 @@ use Rattle.std.specs.Option.{option_map, option_and_then}
 use Rattle.std.specs.Str.{bytes_eq}
 use Rattle.hd_num.specs.declared.vector.Vec3.{Vec3}
 use Rattle.hd_path.specs.Names.{Name}
+use Rattle.hd_path.proofs.Logic.{some_is_not}
+use Rattle.hd_path.proofs.NamePrefixes.{and_true}
 use Rattle.hd_tokens.specs.declared.properties.AttributeKind.{AttributeKind}
 use Rattle.hd_tokens.specs.declared.properties.Content.{Content}
 use Rattle.hd_tokens.specs.declared.properties.Content.TheVariants.{Attribute, Targets}
@@ -30,7 +32,7 @@ use Rattle.hd_schema.specs.Places.{is_at}
 use Rattle.hd_schema.specs.Values.{words, paths, word, op, attribute_value, content_value, value_of}
 use Rattle.hd_schema.proofs.Apart.{IsNamed, IsOp, row_cases, located_row, row_name}
 use Rattle.hd_schema.proofs.OpNames.{order_conforms, op_conforms, kind_among}
-use Rattle.hd_schema.proofs.Lookups.{Each, and_true, some_is_not, found_passes, found_in, found_among, mapped, chained}
+use Rattle.hd_schema.proofs.Lookups.{Each, found_passes, found_in, found_among, mapped, chained}
 use Rattle.hd_schema.proofs.Putting.{Holds, standing}
 
 -- all that is made this way may are there

@@ -1,23 +1,9 @@
 -- Look-ups in lists and in options.
-use Rattle.std.proofs.Common.{◌≡◌, Bool, true, false, ◌&&◌, ◌||◌, cond, List, [], ◌∷◌, Option, Some, None, refl, ap, sym, subst, ◌∙◌}
+use Rattle.std.proofs.Common.{◌≡◌, Bool, true, false, ◌||◌, cond, List, [], ◌∷◌, Option, Some, None, refl, ap, sym, subst, ◌∙◌}
 use Rattle.std.specs.List.{find, list_all, list_any}
 use Rattle.std.specs.Option.{option_map, option_and_then, is_some}
-
-pub and_true : (a b : Bool) → (a && b) ≡ true → (a ≡ true) × (b ≡ true)
-and_true true b e = (refl, e)
-and_true false b e = (e, cc)
-
-pub true_is_not : {P : Type 0} → true ≡ false → P
-true_is_not e = absurd (none e)
-  where
-    none : true ≡ false → ⊥
-    none e = cc
-
-pub some_is_not : {X P : Type 0} (x : X) → Some x ≡ None → P
-some_is_not x e = absurd (none e)
-  where
-    none : Some x ≡ None → ⊥
-    none e = cc
+use Rattle.hd_path.proofs.Logic.{some_is_not}
+use Rattle.hd_path.proofs.NamePrefixes.{and_true}
 
 -- what is found passes the test
 pub found_passes : {X : Type 0} (test : X → Bool) (xs : List X) (x : X) → find test xs ≡ Some x → test x ≡ true

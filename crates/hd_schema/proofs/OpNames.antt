@@ -7,6 +7,7 @@ use Rattle.hd_num.specs.declared.axis.Axis.TheVariants.{X, Y, Z}
 use Rattle.hd_num.specs.declared.op.Op.{Op}
 use Rattle.hd_num.specs.declared.op.Op.TheVariants.{Translate, Scale, Transform}
 use Rattle.hd_path.specs.Names.{Name}
+use Rattle.hd_path.proofs.NamePrefixes.{and_true}
 use Rattle.hd_tokens.specs.declared.properties.AttributeKind.{AttributeKind}
 use Rattle.hd_layer.specs.declared.spec.RawValue.{RawValue}
 use Rattle.hd_tokens.specs.Names.{is_joined}
@@ -16,7 +17,7 @@ use Rattle.hd_value.specs.declared.value.Value.TheVariants as value
 use Rattle.hd_value.specs.Schema as schema
 use Rattle.hd_value.specs.Schema.{is_order}
 use Rattle.hd_schema.specs.OpValues.{number, triple, matrix, turn, turns, OpValue, op_values, op_of_kind, kind_of}
-use Rattle.hd_schema.proofs.Lookups.{Each, and_true, found_passes, found_among, mapped, chained}
+use Rattle.hd_schema.proofs.Lookups.{Each, found_passes, found_among, mapped, chained}
 
 -- entries of an order may be in one
 pub order_conforms : (ws : List Name) → are_op_entries ws ≡ true → is_order (value.Tokens ws) ≡ true

@@ -5,6 +5,7 @@ use Rattle.std.specs.Str.Pattern.{FindsTextPrefix}
 use Rattle.std.proofs.lemmas.Bool.Decides.{Decides-eqb}
 use Rattle.std.proofs.lemmas.Slice.Eq.{starts_is}
 use Rattle.std.proofs.lemmas.Str.Pattern.{starts_text}
+use Rattle.hd_path.proofs.Logic.{true_is_not, false_is_not}
 use Rattle.hd_tokens.specs.declared.properties.AttributeKind.{AttributeKind}
 use Rattle.hd_tokens.specs.declared.properties.Content.TheVariants.{Attribute}
 use Rattle.hd_tokens.specs.Locators.{Locator, op_at}
@@ -35,25 +36,19 @@ op_located name is used =
     ap (option_map (λ r. r.locator)) same
     ∙ elim (op_kind_of name) as (λ o. is_some (option_map (λ r. r.content) (option_map (λ (kind : AttributeKind). property name (Attribute kind) (op_at (drop 8 name))) o)) ≡ true → option_map (λ r. r.locator) (option_map (λ (kind : AttributeKind). property name (Attribute kind) (op_at (drop 8 name))) o) ≡ Some (op_at (drop 8 name))) [
       | Some kind ↦ λ _. refl
-      | None ↦ λ no. absurd (false_is_not no)
+      | None ↦ λ no. false_is_not no
     ] (sym (ap (λ o. is_some (option_map (λ r. r.content) o)) same) ∙ used)
   where
     same : property_of name ≡ op_property name
     same = row_at name (begins_after name is)
 
-    false_is_not : false ≡ true → ⊥
-    false_is_not e = cc
-
 pub op_unused : (name : List ℕ) → is_some (content_of name) ≡ false → locator_of name ≡ None
 unfolding content_of locator_of
 op_unused name unused =
     elim (property_of name) as (λ o. is_some (option_map (λ r. r.content) o) ≡ false → ◌≡◌ {A = Option Locator} (option_map (λ r. r.locator) o) None) [
-      | Some r ↦ λ no. absurd (true_is_not no)
+      | Some r ↦ λ no. true_is_not no
       | None ↦ λ _. refl
     ] unused
-  where
-    true_is_not : true ≡ false → ⊥
-    true_is_not e = cc
 
 pub plain_located : (name : List ℕ) → FindsTextPrefix (codes "xformOp:") name None → option_map (λ r. r.locator) (named_property name) ≡ locator_of name
 unfolding locator_of property_of

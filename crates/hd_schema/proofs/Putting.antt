@@ -1,14 +1,13 @@
 -- What a property that is put into a map does to what the map answers.
-use Rattle.std.proofs.Common.{◌≡◌, ◌≢◌, ℕ, Bool, true, false, not, ◌&&◌, ◌||◌, cond, List, [], ◌∷◌, ◌++◌, Option, Some, None, refl, ap, sym, subst, ◌∙◌}
+use Rattle.std.proofs.Common.{◌≡◌, ◌≢◌, ℕ, true, false, not, ◌&&◌, ◌||◌, cond, List, [], ◌∷◌, ◌++◌, Option, Some, None, refl, ap, sym, subst, ◌∙◌}
 use Rattle.std.specs.Cmp.Lexicographic.{slice_cmp, pointwise_decides, bytes_decides}
 use Rattle.std.specs.FinMap.{get, empty, get-empty, retain_keys, get-insert, get-retain_keys}
 use Rattle.std.specs.List.{find, list_any}
 use Rattle.std.specs.Option.{option_map_or, option_and_then, option_or}
-use Rattle.std.specs.Ordering.{nat_cmp, eq_by_cmp}
+use Rattle.std.specs.Ordering.{nat_cmp}
 use Rattle.std.specs.Str.{bytes_eq}
 use Rattle.std.proofs.lemmas.Cmp.{eq_by_cmp_equiv}
 use Rattle.std.proofs.lemmas.List.Folds.{find-append}
-use Rattle.std.proofs.lemmas.Map.Views.{tells_apart}
 use Rattle.hd_layer.specs.declared.spec.Property.{Property}
 use Rattle.hd_tokens.specs.Locators.{Locator}
 use Rattle.hd_schema.specs.inner.FreePlaces.{IsFreeAt}
@@ -16,15 +15,14 @@ use Rattle.hd_tokens.specs.Properties.{locator_of}
 use Rattle.hd_value.specs.declared.value.Value.{Value}
 use Rattle.hd_value.specs.inner.Falls.{locators_total, locators_tie}
 use Rattle.hd_path.specs.Paths.{is_prefix}
+use Rattle.hd_path.proofs.Logic.{true_is_not}
+use Rattle.hd_path.proofs.NamePrefixes.{nothing_left}
 use Rattle.hd_value.specs.Maps.{Map, set_at, IsFree}
+use Rattle.hd_value.proofs.Getting.{eqk, eqk_same}
 use Rattle.hd_schema.specs.Places.{is_same_place, is_at}
 use Rattle.hd_schema.specs.Authored.{property_value, authored_at, set_if_both, with_property}
 use Rattle.hd_schema.proofs.Apart.{names_apart, some_token}
-use Rattle.hd_schema.proofs.Lookups.{true_is_not, found_passes}
-
--- two locators that the order of maps does not tell apart
-abbrev pub eqk : Locator → Locator → Bool
-eqk = eq_by_cmp (slice_cmp (slice_cmp nat_cmp))
+use Rattle.hd_schema.proofs.Lookups.{found_passes}
 
 pub is_prefix_self : (at : Locator) → is_prefix at at ≡ true
 is_prefix_self [] = refl
@@ -99,10 +97,6 @@ none_here name at (p ∷ ps) located new =
 abbrev pub Holds : Map → List Property → Type 0
 Holds m ps = (q : Locator) → get m q ≡ authored_at ps q
 
-nothing_left : (front rest : Locator) → front ≡ front ++ rest → rest ≡ []
-nothing_left [] rest e = sym e
-nothing_left (x ∷ front) rest e = nothing_left front rest cc
-
 pub free_place : (m : Map) (ps : List Property) (name : List ℕ) (at : Locator) → Holds m ps → locator_of name ≡ Some at → IsFree m at
 free_place m ps name at holds located front rest is some =
     holds front ∙ ap (option_and_then property_value) (none_above name at front ps located (subst (λ (w : Locator). is_prefix front w ≡ true) (sym is) (is_prefix_append front rest)) (λ same. some (nothing_left front rest (same ∙ is))))
@@ -112,9 +106,6 @@ get_set : (m : Map) (at : Locator) (v : Value) (q : Locator) → get (set_at m a
 get_set m at v q =
     get-insert locators_total (retain_keys m (λ key. not (is_prefix at key))) at v q
     ∙ ap (cond (eqk q at) (Some v)) (get-retain_keys m (λ key. not (is_prefix at key)) q (λ x ties. ap (λ k. not (is_prefix at k)) (sym (locators_tie q x ties))))
-
-pub eqk_same : (q k : Locator) → eqk q k ≡ true → q ≡ k
-eqk_same q k e = tells_apart locators_tie q k e
 
 -- properties and one more after them
 authored_more : (ps : List Property) (p : Property) (q : Locator) → authored_at (ps ++ p ∷ []) q ≡ option_and_then property_value (option_or (find (λ (x : Property). is_at x.name q) ps) (cond (is_at p.name q) (Some p) None))

@@ -8,6 +8,9 @@ use Rattle.std.specs.Str.{bytes_eq}
 use Rattle.std.proofs.lemmas.List.{take_all, take_more, map-append}
 use Rattle.std.proofs.lemmas.List.Sums.{sum_by-cons}
 use Rattle.std.proofs.lemmas.List.Sorted.{Contains-permutation, sum_by-IsPermutation, list_any-IsPermutation}
+use Rattle.std.proofs.lemmas.Bool.{not-true}
+use Rattle.hd_path.proofs.Logic.{true_is_not, some_is_not}
+use Rattle.hd_path.proofs.NamePrefixes.{and_true}
 use Rattle.hd_layer.specs.declared.spec.Property.{Property}
 use Rattle.hd_tokens.specs.Locators.{Locator}
 use Rattle.hd_tokens.specs.Properties.{locator_of}
@@ -17,7 +20,7 @@ use Rattle.hd_value.specs.Maps.{Map}
 use Rattle.hd_schema.specs.Places.{is_at}
 use Rattle.hd_schema.specs.Authored.{property_value, authored_at}
 use Rattle.hd_schema.proofs.Apart.{names_apart}
-use Rattle.hd_schema.proofs.Lookups.{and_true, true_is_not, some_is_not, found_passes, is_some-find}
+use Rattle.hd_schema.proofs.Lookups.{found_passes, is_some-find}
 use Rattle.hd_schema.proofs.Putting.{Holds, IsNew, standing, located_stands, is_prefix_self}
 
 -- how many pass the test
@@ -49,15 +52,11 @@ none_counted name (p ∷ ps) none =
       | false ↦ λ later. omega (arith, none_counted name ps later)
     ] none
 
-not_false : (b : Bool) → not b ≡ true → b ≡ false
-not_false true e = sym e
-not_false false e = refl
-
 counted_once : (name : List ℕ) (ps : List Property) → are_distinct (map (λ (x : Property). x.name) ps) ≡ true → count (has_name name) ps ≤ 1
 counted_once name [] e = omega arith
 counted_once name (p ∷ ps) e =
     let both = and_true (not (list_any (bytes_eq p.name) (map (λ (x : Property). x.name) ps))) (are_distinct (map (λ (x : Property). x.name) ps)) e in
-    let none : count (has_name p.name) ps ≡ 0 = none_counted p.name ps (not_false (list_any (bytes_eq p.name) (map (λ (x : Property). x.name) ps)) both.0) in
+    let none : count (has_name p.name) ps ≡ 0 = none_counted p.name ps (not-true (list_any (bytes_eq p.name) (map (λ (x : Property). x.name) ps)) both.0) in
     let rest : count (has_name name) ps ≤ 1 = counted_once name ps both.1 in
     elim (bytes_eq name p.name) as (λ b. bytes_eq name p.name ≡ b → cond b 1 0 + count (has_name name) ps ≤ 1) [
       | true ↦ λ same.

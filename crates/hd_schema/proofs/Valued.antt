@@ -19,6 +19,8 @@ use Rattle.hd_layer.specs.declared.spec.Property.{Property}
 use Rattle.hd_layer.specs.declared.spec.RawValue.{RawValue}
 use Rattle.hd_layer.specs.declared.spec.RawValue.TheVariants.{Numbers, Triples, Words, Paths, Matrix}
 use Rattle.hd_path.specs.Paths.{Path}
+use Rattle.hd_path.proofs.Logic.{true_is_not}
+use Rattle.hd_path.proofs.NamePrefixes.{and_true}
 use Rattle.hd_tokens.specs.Properties.{UsedProperty, OpKind, used_properties, op_kinds, property_of, content_of, attribute_kind_of, attribute_kind_in, is_targets, is_target_name, locator_of}
 use Rattle.hd_layer.specs.WellFormed.{has_form, has_value, are_triples, are_numbers, are_words, are_paths, are_rows, is_single, is_list, is_below_root, are_distinct, is_property, is_prim_spec}
 use Rattle.hd_value.specs.declared.value.Value.{Value}
@@ -28,7 +30,7 @@ use Rattle.hd_schema.specs.Authored.{property_value, HasValueOf}
 use Rattle.hd_schema.specs.OpValues.{only, numbers, triples, number, triple, matrix, turn, turns, kind_of, op_of_kind}
 use Rattle.hd_schema.specs.Values.{words, word, paths, op, attribute_value, content_value, value_of}
 use Rattle.hd_schema.proofs.Apart.{IsOp, row_cases, row_name}
-use Rattle.hd_schema.proofs.Lookups.{Each, and_true, true_is_not, found_among}
+use Rattle.hd_schema.proofs.Lookups.{Each, found_among}
 use Rattle.hd_schema.proofs.OpNames.{kind_among}
 use Rattle.hd_schema.proofs.Putting.{Holds}
 use Rattle.hd_schema.proofs.Conforming.{content_form, form_of}

@@ -7,6 +7,7 @@ use Rattle.std.specs.FinMap.{get}
 use Rattle.std.specs.BTreeSet as set
 use Rattle.std.specs.BTreeSet.{BTreeSet}
 use Rattle.std.proofs.lemmas.Map.Views.{btree_set_contains_iff}
+use Rattle.std.specs.Cmp.{both_ways}
 use Rattle.hd_path.specs.Paths.{path_cmp, is_prefix}
 use Rattle.hd_scene.specs.Scenes.{kind_at}
 use Rattle.hd_scene.specs.declared.prims.Entry.{Entry}
@@ -85,14 +86,9 @@ no_row layers q none = ap is_row_kind (kind_composed layers q ∙ ap kind_of_all
 -- a path is one of those of a layer's prims at and below another one
 pub from_listed : (layer : Layer) (path : Names) (paths : List Names) (q : Names) → ArePathsFrom layer path paths → is_prefix path q ≡ true → is_listed paths q ≡ is_some (get layer q)
 from_listed layer path paths q from begins =
-    same_answer (is_listed paths q) (is_some (get layer q))
+    both_ways (is_listed paths q) (is_some (get layer q))
     (λ listed. ((from.there q).0 ((btree_set_contains_iff path_cmp_total path_cmp_exact (record { keys = paths }) q).0 listed)).1)
     (λ there. (btree_set_contains_iff path_cmp_total path_cmp_exact (record { keys = paths }) q).1 ((from.there q).1 (begins, there)))
-  where
-    same_answer : (a b : Bool) → (a ≡ true → b ≡ true) → (b ≡ true → a ≡ true) → a ≡ b
-    same_answer true b f g = sym (f refl)
-    same_answer false true f g = g refl
-    same_answer false false f g = refl
 
 -- the set has the paths of the rows that are in the first few layers
 pub record IsGathered (layers : List Layer) (count : ℕ) (rows : BTreeSet Names) : Type 0 where

@@ -1,10 +1,11 @@
 -- The prims that a picture can show, or is made with. Each has a row in what is drawn from.
-use Rattle.std.specs.Prelude.{◌≡◌, ◌<◌, ℕ, List, [], ◌∷◌, map, filter, length, Bool, false, cond, Option, Some, None, codes}
+use Rattle.std.specs.Prelude.{◌≡◌, ◌<◌, ℕ, List, [], ◌∷◌, map, filter, length, Bool, false, cond, Option, Some, None}
 use Rattle.std.specs.List.{list_any}
 use Rattle.std.specs.Ordering.{eq_by_cmp}
 use Rattle.std.specs.FinMap.{entries}
 use Rattle.std.specs.BTreeSet as set
 use Rattle.std.specs.BTreeSet.{BTreeSet}
+use Rattle.hd_tokens.specs.Kinds.{mesh_kind, points_kind, camera_kind, material_kind, point_instancer_kind}
 use Rattle.hd_path.specs.Names.{Name, is_same}
 use Rattle.hd_path.specs.Paths.{Path, path_cmp}
 use Rattle.hd_scene.specs.Scenes.{Scene, kind_at}
@@ -14,7 +15,7 @@ use Rattle.hd_stack.specs.Stacks.{composed_scene}
 
 -- the kinds of such prims
 abbrev pub row_kinds : List Name
-row_kinds = codes "Mesh" ∷ codes "Points" ∷ codes "Camera" ∷ codes "Material" ∷ codes "PointInstancer" ∷ []
+row_kinds = mesh_kind ∷ points_kind ∷ camera_kind ∷ material_kind ∷ point_instancer_kind ∷ []
 
 abbrev pub has_row : Name → Bool
 has_row kind = list_any (is_same kind) row_kinds

@@ -8,6 +8,7 @@ ghost use Rattle.hd_session.specs.Rows.{has_row, is_row, row_paths, IsUpdated};
 
 use hd_path::Path;
 use hd_stack::Stack;
+use hd_tokens::kinds;
 use std::alloc::{AllocError, Global};
 use std::collections::BTreeSet;
 
@@ -15,11 +16,11 @@ use std::collections::BTreeSet;
 fn has_row(kind: &str) -> bool
     ensures { result ≡ has_row kind.now }
 {
-    kind == "Mesh"
-        || kind == "Points"
-        || kind == "Camera"
-        || kind == "Material"
-        || kind == "PointInstancer"
+    kind == kinds::MESH
+        || kind == kinds::POINTS
+        || kind == kinds::CAMERA
+        || kind == kinds::MATERIAL
+        || kind == kinds::POINT_INSTANCER
 }
 
 /// Whether a row is at a path.

@@ -8,9 +8,10 @@ use Rattle.hd_value.specs.declared.value.Value.TheVariants.{Token, Tokens, Ints,
 use Rattle.hd_path.specs.Names.{Name, is_same}
 use Rattle.hd_path.specs.Paths.{is_prefix}
 use Rattle.hd_path.proofs.NamePrefixes.{and_true, same_text}
+use Rattle.hd_path.proofs.Logic.{true_is_not, either}
 use Rattle.hd_value.specs.Schema.{Row, allows, passed_rows, flattened_away_rows, is_named_op, is_authored}
 use Rattle.hd_merging.specs.Laws.{IsUnnested}
-use Rattle.hd_flattening.proofs.Placing.{same, true_is_not}
+use Rattle.hd_flattening.proofs.Placing.{same}
 use Rattle.hd_flattening.proofs.Building.{row_of_value}
 
 named_op : (at : Locator) (v : Value) → is_named_op at v ≡ true → (name : Name) × (at ≡ op_at name)
@@ -46,10 +47,6 @@ module _ (test : List (List ℕ) → Bool) (passed : of_each test passed_rows �
       (either (allows passed_rows at v) (allows flattened_away_rows at v) (row_of_value test passed_rows at v passed) (row_of_value test flattened_away_rows at v away))
       (λ there. let named = named_op at v there in ap test named.1 ∙ op named.0)
       e
-    where
-      either : (a b : Bool) → (a ≡ true → test at ≡ true) → (b ≡ true → test at ≡ true) → (a || b) ≡ true → test at ≡ true
-      either true b f g h = f refl
-      either false b f g h = g h
 
 -- the second locator begins with the first only where the two are one
 abbrev apart : List (List ℕ) → List (List ℕ) → Bool

@@ -1,4 +1,5 @@
 pub mod Names
+pub mod Kinds
 pub mod Locators
 pub mod Properties
 pub mod Tables

@@ -1,6 +1,7 @@
-//! The vocabulary of a scene: the used properties with their types and locators, the kinds of transform ops, and the words of visibility and purpose.
+//! The vocabulary of a scene: the kinds of prims, the used properties with their types and locators, the kinds of transform ops, and the words of visibility and purpose.
 #![tactic(auto)]
 
+pub mod kinds;
 pub mod locators;
 mod properties;
 mod words;

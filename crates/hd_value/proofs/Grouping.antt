@@ -1,5 +1,5 @@
 -- Each value is under the locators of one group.
-use Rattle.std.proofs.Common.{◌≡◌, ℕ, Bool, true, false, ◌&&◌, ◌||◌, ◌==◌, List, [], ◌∷◌, codes, refl, ap, sym, ◌∙◌}
+use Rattle.std.proofs.Common.{◌≡◌, ℕ, Bool, true, ◌&&◌, ◌||◌, ◌==◌, List, [], ◌∷◌, codes, refl, ap, sym, ◌∙◌}
 use Rattle.std.specs.List.{count_by, list_all}
 use Rattle.std.proofs.lemmas.Bool.Decides.{Decides-eqb}
 use Rattle.hd_tokens.specs.Locators.{Locator, op_at}
@@ -13,22 +13,13 @@ use Rattle.hd_value.specs.Schema.{Row, passed_rows, flattened_away_rows, instanc
 use Rattle.hd_path.specs.Names.{is_same}
 use Rattle.hd_path.specs.Paths.{is_prefix}
 use Rattle.hd_path.proofs.NamePrefixes.{and_true, same_text}
-
-not_true : {P : Type 0} → false ≡ true → P
-not_true e = absurd (none e)
-  where
-    none : false ≡ true → ⊥
-    none e = cc
-
-either : {P : Type 0} (a b : Bool) → (a || b) ≡ true → (a ≡ true → P) → (b ≡ true → P) → P
-either true b e left right = left refl
-either false b e left right = right e
+use Rattle.hd_path.proofs.Logic.{false_is_not, either}
 
 -- two locators that begin with each other are one
 both_prefixes : (a b : Locator) → is_prefix a b ≡ true → is_prefix b a ≡ true → a ≡ b
 both_prefixes [] [] e f = refl
-both_prefixes [] (y ∷ b) e f = not_true f
-both_prefixes (x ∷ a) [] e f = not_true e
+both_prefixes [] (y ∷ b) e f = false_is_not f
+both_prefixes (x ∷ a) [] e f = false_is_not e
 both_prefixes (x ∷ a) (y ∷ b) e f =
     let front = and_true (is_same x y) (is_prefix a b) e in
     let back = and_true (is_same y x) (is_prefix b a) f in
@@ -36,15 +27,15 @@ both_prefixes (x ∷ a) (y ∷ b) e f =
 
 -- what holds of the locator of each row holds where a row allows a value
 at_rows : (test : Locator → Bool) (rows : List Row) (at : Locator) (v : Value) → list_all (λ (row : Row). test row.0) rows ≡ true → allows rows at v ≡ true → test at ≡ true
-at_rows test [] at v all e = not_true e
+at_rows test [] at v all e = false_is_not e
 at_rows test (row ∷ rows) at v all e =
     let each = and_true (test row.0) (list_all (λ (r : Row). test r.0) rows) all in
-    either (is_prefix row.0 at && is_prefix at row.0 && row.1 v) (allows rows at v) e
+    either (is_prefix row.0 at && is_prefix at row.0 && row.1 v) (allows rows at v)
     (λ here.
     let there = and_true (is_prefix row.0 at && is_prefix at row.0) (row.1 v) here in
     let prefixes = and_true (is_prefix row.0 at) (is_prefix at row.0) there.0 in
     ap test (sym (both_prefixes row.0 at prefixes.0 prefixes.1)) ∙ each.0)
-    (λ later. at_rows test rows at v each.1 later)
+    (λ later. at_rows test rows at v each.1 later) e
 
 -- what holds of each locator of an op holds wherever an op may be
 at_ops : (test : Locator → Bool) (at : Locator) (v : Value) → ((name : List ℕ) → test (op_at name) ≡ true) → is_named_op at v ≡ true → test at ≡ true
@@ -55,20 +46,20 @@ at_ops test (a ∷ b ∷ name ∷ []) (Op op) all e =
     ap (λ (w : List ℕ). test (w ∷ b ∷ name ∷ [])) (sym (same_text (codes "xform") a first.0))
     ∙ ap (λ (w : List ℕ). test (codes "xform" ∷ w ∷ name ∷ [])) (sym (same_text (codes "ops") b second.0))
     ∙ all name
-at_ops test (a ∷ b ∷ name ∷ []) (Token t) all e = not_true e
-at_ops test (a ∷ b ∷ name ∷ []) (Tokens ts) all e = not_true e
-at_ops test (a ∷ b ∷ name ∷ []) (Ints ns) all e = not_true e
-at_ops test (a ∷ b ∷ name ∷ []) (Vecs vs) all e = not_true e
-at_ops test (a ∷ b ∷ name ∷ []) (Color c) all e = not_true e
-at_ops test (a ∷ b ∷ name ∷ []) (Colors cs) all e = not_true e
-at_ops test (a ∷ b ∷ name ∷ []) (Paths ps) all e = not_true e
-at_ops test (a ∷ b ∷ name ∷ []) (Matrix m) all e = not_true e
-at_ops test (a ∷ b ∷ name ∷ []) Out all e = not_true e
-at_ops test (a ∷ b ∷ name ∷ []) (Flag flag) all e = not_true e
-at_ops test [] v all e = not_true e
-at_ops test (a ∷ []) v all e = not_true e
-at_ops test (a ∷ b ∷ []) v all e = not_true e
-at_ops test (a ∷ b ∷ name ∷ more ∷ rest) v all e = not_true e
+at_ops test (a ∷ b ∷ name ∷ []) (Token t) all e = false_is_not e
+at_ops test (a ∷ b ∷ name ∷ []) (Tokens ts) all e = false_is_not e
+at_ops test (a ∷ b ∷ name ∷ []) (Ints ns) all e = false_is_not e
+at_ops test (a ∷ b ∷ name ∷ []) (Vecs vs) all e = false_is_not e
+at_ops test (a ∷ b ∷ name ∷ []) (Color c) all e = false_is_not e
+at_ops test (a ∷ b ∷ name ∷ []) (Colors cs) all e = false_is_not e
+at_ops test (a ∷ b ∷ name ∷ []) (Paths ps) all e = false_is_not e
+at_ops test (a ∷ b ∷ name ∷ []) (Matrix m) all e = false_is_not e
+at_ops test (a ∷ b ∷ name ∷ []) Out all e = false_is_not e
+at_ops test (a ∷ b ∷ name ∷ []) (Flag flag) all e = false_is_not e
+at_ops test [] v all e = false_is_not e
+at_ops test (a ∷ []) v all e = false_is_not e
+at_ops test (a ∷ b ∷ []) v all e = false_is_not e
+at_ops test (a ∷ b ∷ name ∷ more ∷ rest) v all e = false_is_not e
 
 abbrev in_one : Locator → Bool
 in_one at = count_by (λ group. intersects (locator_of_group group) at) groups == 1
@@ -79,15 +70,15 @@ in_one_before at = count_by (λ group. touches (locators_before_flattening group
 pub flattened_have_one_group : FlattenedHaveOneGroup
 flattened_have_one_group at v e =
     (Decides-eqb (count_by (λ group. intersects (locator_of_group group) at) groups) 1).0
-    (either (allows passed_rows at v || allows (instanced_by_row ∷ []) at v) (allows flattened_rows at v) e
-    (λ kept. either (allows passed_rows at v) (allows (instanced_by_row ∷ []) at v) kept (at_rows in_one passed_rows at v refl) (at_rows in_one (instanced_by_row ∷ []) at v refl))
-    (at_rows in_one flattened_rows at v refl))
+    (either (allows passed_rows at v || allows (instanced_by_row ∷ []) at v) (allows flattened_rows at v)
+    (λ kept. either (allows passed_rows at v) (allows (instanced_by_row ∷ []) at v) (at_rows in_one passed_rows at v refl) (at_rows in_one (instanced_by_row ∷ []) at v refl) kept)
+    (at_rows in_one flattened_rows at v refl) e)
 
 pub instanced_have_one_group : InstancedHaveOneGroup
 instanced_have_one_group at v e =
     (Decides-eqb (count_by (λ group. touches (locators_before_flattening group) at) groups) 1).0
-    (either ((allows passed_rows at v || allows flattened_away_rows at v) || is_named_op at v) (allows (instanced_by_row ∷ reset_row ∷ []) at v) e
-    (λ authored. either (allows passed_rows at v || allows flattened_away_rows at v) (is_named_op at v) authored
-    (λ row. either (allows passed_rows at v) (allows flattened_away_rows at v) row (at_rows in_one_before passed_rows at v refl) (at_rows in_one_before flattened_away_rows at v refl))
-    (at_ops in_one_before at v (λ name. refl)))
-    (at_rows in_one_before (instanced_by_row ∷ reset_row ∷ []) at v refl))
+    (either ((allows passed_rows at v || allows flattened_away_rows at v) || is_named_op at v) (allows (instanced_by_row ∷ reset_row ∷ []) at v)
+    (λ authored. either (allows passed_rows at v || allows flattened_away_rows at v) (is_named_op at v)
+    (λ row. either (allows passed_rows at v) (allows flattened_away_rows at v) (at_rows in_one_before passed_rows at v refl) (at_rows in_one_before flattened_away_rows at v refl) row)
+    (at_ops in_one_before at v (λ name. refl)) authored)
+    (at_rows in_one_before (instanced_by_row ∷ reset_row ∷ []) at v refl) e)

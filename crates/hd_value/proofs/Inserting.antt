@@ -1,5 +1,6 @@
 -- What an insertion into a set of locators does to what it intersects.
 use Rattle.std.proofs.Common.{◌≡◌, Bool, true, false, not, cond, if◌then◌else◌, filter, [], ◌∷◌, ◌++◌, ◌||◌, refl, ap, sym, ◌∙◌}
+use Rattle.std.proofs.Math.Bool.{or-true}
 use Rattle.hd_tokens.specs.Locators.{Locator}
 use Rattle.hd_value.specs.Locators.{intersects}
 use Rattle.hd_path.specs.Paths.{is_prefix}
@@ -33,12 +34,8 @@ covered [] at x c h = c
 covered (m ∷ set) at x c h =
     elim (is_prefix m at) as (λ t. is_prefix m at ≡ t → (t || covers set at) ≡ true → (intersects m x || touches set x) ≡ true) [
       | true ↦ λ p _. ap (λ t. t || touches set x) (above_intersects m at x p h)
-      | false ↦ λ _ rest. let later : touches set x ≡ true = covered set at x rest h in ap (λ t. intersects m x || t) later ∙ or_true (intersects m x)
+      | false ↦ λ _ rest. let later : touches set x ≡ true = covered set at x rest h in ap (λ t. intersects m x || t) later ∙ or-true (intersects m x)
     ] refl c
-  where
-    or_true : (a : Bool) → (a || true) ≡ true
-    or_true true = refl
-    or_true false = refl
 
 -- what goes intersects no more than the locator
 kept_touches : (set : LocatorSet) (at x : Locator) → (touches (filter (stays at) set) x || intersects at x) ≡ (touches set x || intersects at x)

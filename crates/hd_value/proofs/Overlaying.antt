@@ -6,6 +6,7 @@ use Rattle.std.specs.Cmp.Lexicographic.{slice_cmp}
 use Rattle.std.specs.Ordering.{nat_cmp}
 use Rattle.std.specs.FinMap.{entries, from_entries, keys, get, empty, retain_keys, entries-insert, get-entries, get-from_entries, get-retain_keys, get-empty, same_map}
 use Rattle.std.specs.FinMap.Entries.{put, by_order}
+use Rattle.std.proofs.Math.Bool.{or-true}
 use Rattle.hd_tokens.specs.Locators.{Locator}
 use Rattle.hd_value.specs.declared.value.Value.{Value}
 use Rattle.hd_value.specs.declared.container.Entry.{Entry}
@@ -15,6 +16,7 @@ use Rattle.hd_value.specs.Locators.{intersects}
 use Rattle.hd_path.specs.Names.{is_same}
 use Rattle.hd_path.specs.Paths.{is_prefix}
 use Rattle.hd_path.proofs.NamePrefixes.{same_text, same_itself, or_false}
+use Rattle.hd_path.proofs.Logic.{true_is_not, some_is_not}
 use Rattle.hd_value.specs.LocatorSets.{LocatorSet, touches}
 use Rattle.hd_value.specs.Maps.{Map, overlaid_at, IsPrefixFree}
 use Rattle.hd_value.specs.Levels.{values_at, values_of}
@@ -58,16 +60,13 @@ touches-put k v (e ∷ es) q =
 touches-empty : (q : Locator) → touches (keys (empty {X = Value} {R = slice_cmp (slice_cmp nat_cmp)})) q ≡ false
 touches-empty q = none (entries empty) (λ k. sym (get-entries empty k) ∙ get-empty (slice_cmp (slice_cmp nat_cmp)) k)
   where
-    some_is_not : (v : Value) → Some v ≡ None → ⊥
-    some_is_not v e = cc
-
     eqk_itself : (q : Locator) → eqk q q ≡ true
     eqk_itself [] = refl
     eqk_itself (x ∷ q) = eqk-cons x x q q ∙ ap (λ b. b && eqk q q) (same_itself x) ∙ eqk_itself q
 
     none : (es : List (Locator × Value)) → ((k : Locator) → seek k es ≡ None) → touches (ats es) q ≡ false
     none [] h = refl
-    none (e ∷ es) h = absurd (some_is_not e.1 (ap (λ b. cond b (Some e.1) (seek e.0 es)) (sym (eqk_itself e.0)) ∙ h e.0))
+    none (e ∷ es) h = some_is_not e.1 (ap (λ b. cond b (Some e.1) (seek e.0 es)) (sym (eqk_itself e.0)) ∙ h e.0)
 
 touches-from_entries : (es : List (Locator × Value)) (q : Locator) → touches (keys (from_entries {R = slice_cmp (slice_cmp nat_cmp)} es)) q ≡ touches (ats es) q
 touches-from_entries [] q = touches-empty q
@@ -133,12 +132,9 @@ untouched_list [] q h = refl
 untouched_list (e ∷ es) q h =
     let apart = or_false (intersects e.0 q) (touches (ats es) q) h in
     elim (eqk q e.0) as (λ b. eqk q e.0 ≡ b → cond b (Some e.1) (seek q es) ≡ None) [
-      | true ↦ λ same. absurd (true_is_not (sym (eqk_intersects q e.0 same) ∙ apart.0))
+      | true ↦ λ same. true_is_not (sym (eqk_intersects q e.0 same) ∙ apart.0)
       | false ↦ λ _. untouched_list es q apart.1
     ] refl
-  where
-    true_is_not : true ≡ false → ⊥
-    true_is_not e = cc
 
 pub untouched : (m : Map) (q : Locator) → touches (keys m) q ≡ false → get m q ≡ None
 untouched m q h = get-entries m q ∙ untouched_list (entries m) q h
@@ -165,12 +161,8 @@ key_touches_list [] k q some meets = absurd (some refl)
 key_touches_list (e ∷ es) k q some meets =
     elim (eqk k e.0) as (λ b. eqk k e.0 ≡ b → (intersects e.0 q || touches (ats es) q) ≡ true) [
       | true ↦ λ same. ap (λ b. b || touches (ats es) q) (subst (λ (w : Locator). intersects w q ≡ true) (eqk_same k e.0 same) meets)
-      | false ↦ λ other. ap (λ b. intersects e.0 q || b) (key_touches_list es k q (λ none. some (ap (λ b. cond b (Some e.1) (seek k es)) other ∙ none)) meets) ∙ or_true (intersects e.0 q)
+      | false ↦ λ other. ap (λ b. intersects e.0 q || b) (key_touches_list es k q (λ none. some (ap (λ b. cond b (Some e.1) (seek k es)) other ∙ none)) meets) ∙ or-true (intersects e.0 q)
     ] refl
-  where
-    or_true : (a : Bool) → (a || true) ≡ true
-    or_true true = refl
-    or_true false = refl
 
 key_touches : (m : Map) (k q : Locator) → get m k ≢ None → intersects k q ≡ true → touches (keys m) q ≡ true
 key_touches m k q some meets = key_touches_list (entries m) k q (λ none. some (get-entries m k ∙ none)) meets
@@ -185,14 +177,11 @@ prefix_free_overlaid m n first second a b some_a some_b p =
       | false ↦ λ far_a. elim (touches (keys m) b) as (λ t. touches (keys m) b ≡ t → a ≡ b) [
         | true ↦ λ near_b.
             let in_b : get m b ≢ None = λ none. some_b (answer b true near_b ∙ none) in
-            absurd (true_is_not (sym (key_touches m b a in_b (intersects_turned b a ∙ meet)) ∙ far_a))
+            true_is_not (sym (key_touches m b a in_b (intersects_turned b a ∙ meet)) ∙ far_a)
         | false ↦ λ far_b. second a b (λ none. some_a (answer a false far_a ∙ none)) (λ none. some_b (answer b false far_b ∙ none)) p
       ] refl
     ] refl
   where
-    true_is_not : true ≡ false → ⊥
-    true_is_not e = cc
-
     meet : intersects a b ≡ true
     meet = ap (λ t. t || is_prefix b a) p
 
@@ -232,9 +221,6 @@ merged_filled (Inner m) (Inner n) h g = record {
   prefix_free = prefix_free_overlaid m n h.prefix_free g.prefix_free;
 }
   where
-    true_is_not : true ≡ false → ⊥
-    true_is_not e = cc
-
     more : (q : Locator) → touches (keys m) q ≡ true → touches (keys (overlaid_on m n)) q ≡ touches (keys m) q
     more q e =
         touches-from_entries (entries m ++ entries (retain_keys n (λ key. not (touches (keys m) key)))) q

@@ -15,6 +15,7 @@ use Rattle.hd_value.specs.declared.container.Source.TheVariants.{Inner, Leaf}
 use Rattle.hd_path.specs.Names.{is_same}
 use Rattle.hd_path.specs.Paths.{is_prefix}
 use Rattle.hd_path.proofs.NamePrefixes.{same_text, same_itself, and_true, slice_to_end}
+use Rattle.hd_path.proofs.Logic.{true_is_not, false_is_not, some_is_not}
 use Rattle.hd_value.specs.Maps.{Map, set_at, IsFree, IsPrefixFree}
 use Rattle.hd_value.specs.inner.Entries.{source_at, entries_with, map_of_source, source_with, IsFilled, AreEntries, IsInner}
 use Rattle.hd_value.specs.inner.Falls.{locators_total, locators_tie}
@@ -32,15 +33,9 @@ get-set_at m at v q =
 
 -- a prefix of another locator leaves something of it
 strict_prefix : (a b : Locator) → is_prefix a b ≡ true → eqk a b ≡ false → (rest : Locator) × (b ≡ a ++ rest) × (rest ≢ [])
-strict_prefix [] [] p e = absurd (true_is_not e)
-  where
-    true_is_not : true ≡ false → ⊥
-    true_is_not e = cc
+strict_prefix [] [] p e = true_is_not e
 strict_prefix [] (y ∷ b) p e = (y ∷ b, refl, λ none. cc)
-strict_prefix (x ∷ a) [] p e = absurd (false_is_not p)
-  where
-    false_is_not : false ≡ true → ⊥
-    false_is_not e = cc
+strict_prefix (x ∷ a) [] p e = false_is_not p
 strict_prefix (x ∷ a) (y ∷ b) p e =
     let both = and_true (is_same x y) (is_prefix a b) p in
     let apart : eqk a b ≡ false = ap (λ t. t && eqk a b) (sym both.0) ∙ sym (eqk-cons x y a b) ∙ e in
@@ -95,9 +90,6 @@ set_at_inner m u at v root apart free = record {
     eqk_itself [] = refl
     eqk_itself (x ∷ q) = eqk-cons x x q q ∙ ap (λ b. b && eqk q q) (same_itself x) ∙ eqk_itself q
 
-    some_is_not : (v : Value) → Some v ≡ None → ⊥
-    some_is_not v e = cc
-
 pub same_turned : (x y : List ℕ) → is_same x y ≡ is_same y x
 same_turned x y =
     elim (is_same x y) as (λ b. is_same x y ≡ b → b ≡ is_same y x) [
@@ -148,10 +140,7 @@ free_inner es t n at h is free front rest e some =
 
 pub free_leaf : (es : List Entry) (t : List ℕ) (v : Value) (u : List ℕ) (at : Locator) → AreEntries es → source_at t es ≡ Some (Leaf v) → IsFree (map_of es) (t ∷ u ∷ at) → ⊥
 free_leaf es t v u at h is free =
-    some_is_not (ap (λ o. value_in o []) (sym is) ∙ sym (get-level t [] es h) ∙ free (t ∷ []) (u ∷ at) refl (λ none. cc))
-  where
-    some_is_not : Some v ≡ None → ⊥
-    some_is_not e = cc
+    some_is_not v (ap (λ o. value_in o []) (sym is) ∙ sym (get-level t [] es h) ∙ free (t ∷ []) (u ∷ at) refl (λ none. cc))
 
 pub free_empty : (at : Locator) → IsFree empty at
 free_empty at front rest e some = get-empty (slice_cmp (slice_cmp nat_cmp)) front

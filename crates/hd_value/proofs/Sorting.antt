@@ -12,6 +12,7 @@ use Rattle.hd_value.specs.declared.container.Entry.{Entry}
 use Rattle.hd_value.specs.declared.container.Source.{Source}
 use Rattle.hd_path.specs.Names.{is_same, byte_order}
 use Rattle.hd_path.proofs.NamePrefixes.{same_text, same_itself}
+use Rattle.hd_path.proofs.Logic.{some_is_not}
 use Rattle.hd_value.specs.inner.Entries.{source_at, entries_with, IsFilled, IsBefore, IsPlace, IsGap, AreEntries}
 
 -- the order of tokens
@@ -158,12 +159,9 @@ source_at-append : (t : List ℕ) (xs ys : List Entry) → source_at t xs ≡ No
 source_at-append t [] ys none = refl
 source_at-append t (x ∷ xs) ys none =
     elim (is_same t x.token) as (λ b. (if b then Some x.source else source_at t xs) ≡ None → (if b then Some x.source else source_at t (xs ++ ys)) ≡ source_at t ys) [
-      | true ↦ λ is. absurd (some_is_not x.source is)
+      | true ↦ λ is. some_is_not x.source is
       | false ↦ λ is. source_at-append t xs ys is
     ] none
-  where
-    some_is_not : (s : Source) → Some s ≡ None → ⊥
-    some_is_not s e = cc
 
 source_at-append_first : (t : List ℕ) (xs ys : List Entry) (o : Option Source) → source_at t ys ≡ None → source_at t xs ≡ o → source_at t (xs ++ ys) ≡ o
 source_at-append_first t [] ys o none is = none ∙ is

@@ -1,8 +1,11 @@
 //! Which calls of an object in memory fail, and how much one call moves.
 
-ghost use Rattle.std.specs.Prelude.{◌≡◌, ◌≤◌, ◌↔◌, IsTrue};
-ghost use Rattle.hd_io.specs.Memory.{first_call, count_call, IsDue};
+ghost use Rattle.std.specs.Prelude.{◌≡◌, ◌≤◌, ◌↔◌, IsTrue, OnOk, IsErr, IsErrOf};
+ghost use Rattle.hd_io.specs.declared.fault.OutsideFault.TheVariants.{Failed};
+ghost use Rattle.hd_io.specs.Causes.{Rose};
+ghost use Rattle.hd_io.specs.Memory.{first_call, count_call, IsDue, KeepsToPlan};
 
+use crate::OutsideFault;
 use std::marker::Model;
 
 /// The calls of an object in memory, which are numbered from 0.
@@ -44,6 +47,21 @@ impl Calls {
         let number = self.next;
         self.next = number.saturating_add(1);
         self.failing.contains(&number)
+    }
+
+    /// Counts a call, and adds the fault of one of those that fail to the faults.
+    pub(crate) fn begin(&mut self, faults: &mut u64) -> Result<(), OutsideFault>
+        ensures plan { KeepsToPlan self.old self.new result }
+        ensures due { IsDue self.old → IsErrOf result Failed }
+        ensures failed_only { IsErr result → IsDue self.old }
+        ensures counted { IsErr result → Rose faults.old faults.new }
+        ensures unchanged { OnOk result (faults.new ≡ faults.old) }
+    {
+        if self.fails() {
+            *faults = faults.saturating_add(1);
+            return Err(OutsideFault::Failed);
+        }
+        Ok(())
     }
 
     /// The most bytes that one call moves, at least one.

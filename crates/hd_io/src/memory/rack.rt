@@ -102,10 +102,7 @@ impl Rack for MemoryRack {
         ensures failed_only { IsErrOf result Failed → IsDue self.old.calls }
         ensures due { IsDue self.old.calls → IsErrOf result Failed }
     {
-        if self.calls.fails() {
-            self.faults = self.faults.saturating_add(1);
-            return Err(OutsideFault::Failed);
-        }
+        self.calls.begin(&mut self.faults)?;
         add_file(self.alloc, &mut self.files, name)?;
         self.is_open = true;
         Ok(())
@@ -127,10 +124,7 @@ impl Rack for MemoryRack {
         ensures failed_only { IsErrOf result Failed → IsDue self.old.calls }
         ensures due { IsDue self.old.calls → IsErrOf result Failed }
     {
-        if self.calls.fails() {
-            self.faults = self.faults.saturating_add(1);
-            return Err(OutsideFault::Failed);
-        }
+        self.calls.begin(&mut self.faults)?;
         let count = piece.len().min(self.calls.piece());
         append(&mut self.files, &mut self.offers, piece, count)?;
         Ok(count)
@@ -148,10 +142,7 @@ impl Rack for MemoryRack {
         ensures failed_only { IsErr result → IsDue self.old.calls }
         ensures due { IsDue self.old.calls → IsErrOf result Failed }
     {
-        if self.calls.fails() {
-            self.faults = self.faults.saturating_add(1);
-            return Err(OutsideFault::Failed);
-        }
+        self.calls.begin(&mut self.faults)?;
         self.is_open = false;
         Ok(())
     }

@@ -82,10 +82,7 @@ impl Sink for MemorySink {
         ensures failed_only { IsErrOf result Failed → IsDue self.old.calls }
         ensures due { IsDue self.old.calls → IsErrOf result Failed }
     {
-        if self.calls.fails() {
-            self.faults = self.faults.saturating_add(1);
-            return Err(OutsideFault::Failed);
-        }
+        self.calls.begin(&mut self.faults)?;
         let count = piece.len().min(self.calls.piece());
         append(&mut self.bytes, &mut self.offers, piece, count)?;
         Ok(count)

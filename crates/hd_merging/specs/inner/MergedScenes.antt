@@ -9,6 +9,8 @@ use Rattle.std.specs.Ordering.{eq_by_cmp}
 use Rattle.std.specs.declared.cmp.Ordering.{Ordering}
 use Rattle.std.specs.Cmp.{IsTotalOrder}
 use Rattle.std.specs.FinMap.{FinMap, IsAntisymmetric, get, keys, find, get-from_entries, contains_key-keys}
+use Rattle.std.proofs.Math.Bool.{or-true}
+use Rattle.std.proofs.lemmas.Bool.{false≢true}
 use Rattle.hd_value.specs.inner.Falls.{locators_total, locators_tie}
 use Rattle.hd_value.specs.LocatorSets.{touches}
 use Rattle.hd_value.specs.Maps.{Map, overlaid_at}
@@ -19,15 +21,11 @@ use Rattle.hd_merging.specs.Merges.{table_of, overlay, merged_entry, prims_at, m
 use Rattle.hd_path.specs.Paths.{Path}
 use Rattle.hd_tokens.specs.Locators.{Locator}
 
-or_true : (b : Bool) → (b || true) ≡ true
-or_true true = refl
-or_true false = refl
-
 pub or_left : (a b : Bool) → a ≡ true → (a || b) ≡ true
 or_left a b h = ap (λ c. c || b) h
 
 pub or_right : (a b : Bool) → b ≡ true → (a || b) ≡ true
-or_right a b h = ap (λ c. a || c) h ∙ or_true a
+or_right a b h = ap (λ c. a || c) h ∙ or-true a
 
 neither : {X : Type 0} (b : Bool) → ◌≡◌ {A = Option X} (cond b None None) None
 neither true = refl
@@ -111,10 +109,7 @@ any_passes p q passes (s ∷ ss) all h =
     ] refl h
 
 any_shows : {P : Scene → Type 0} {Q : Type 0} (p : Scene → Bool) → ((s : Scene) → P s → p s ≡ true → Q) → (ss : List Scene) → All P ss → list_any p ss ≡ true → Q
-any_shows p shows [] all h = absurd (false_is_not h)
-  where
-    false_is_not : false ≡ true → ⊥
-    false_is_not e = cc
+any_shows p shows [] all h = absurd (false≢true h)
 any_shows {Q = Q} p shows (s ∷ ss) all h =
     elim (p s) as (λ b. p s ≡ b → (b || list_any p ss) ≡ true → Q) [
       | true ↦ λ here _. shows s (all 0 s (omega arith)) here

@@ -1,5 +1,6 @@
 -- What is before the value of a property: its list op, its type and its name.
 use Rattle.std.specs.Prelude.{ℕ, List, ◌∷◌, ◌++◌, Bool, true, false, ◌&&◌, ◌||◌, Ok, Err, if◌then◌else◌, codes}
+use Rattle.hd_path.specs.Names.{Name}
 use Rattle.hd_lexer.specs.declared.lexer.Kind.TheVariants.{Word, OpenSquare, CloseSquare, Colon}
 use Rattle.hd_layer.specs.declared.fault.LayerWhy.TheVariants.{Syntax, LeftOut}
 use Rattle.hd_lexer.specs.Lexing.{Tokens}
@@ -9,7 +10,7 @@ use Rattle.hd_usda.specs.grammar.Metadata.{list_ops}
 use Rattle.hd_tokens.specs.Names.{is_any}
 
 -- the words of the grammar, and one more, which are no types
-abbrev pub reserved_words : List (List ℕ)
+abbrev pub reserved_words : List Name
 reserved_words = codes "def" ∷ codes "over" ∷ codes "class" ∷ codes "custom" ∷ codes "uniform" ∷ codes "varying" ∷ codes "rel" ∷ codes "connect" ∷ codes "timeSamples" ∷ codes "variantSet" ∷ list_ops
 
 -- [listop]: whether it is there; the order of children or properties is left out

@@ -1,6 +1,7 @@
 -- Metadata, of which nothing is kept.
 use Rattle.std.specs.Prelude.{ℕ, ◌-◌, List, [], ◌∷◌, Bool, ◌||◌, ◌&&◌, Ok, Err, if◌then◌else◌, codes}
 use Rattle.std.specs.Str.{bytes_eq}
+use Rattle.hd_path.specs.Names.{Name}
 use Rattle.hd_tokens.specs.Names.{is_any}
 use Rattle.hd_lexer.specs.declared.lexer.Kind.TheVariants.{Word, Number, Text, OpenRound, CloseRound, Equals, Semicolon}
 use Rattle.hd_layer.specs.declared.fault.LayerWhy.TheVariants.{LeftOut}
@@ -12,11 +13,11 @@ use Rattle.hd_usda.specs.reading.Loops.{past}
 use Rattle.hd_usda.specs.grammar.Value.{value}
 
 -- what may be before a key or a property
-abbrev pub list_ops : List (List ℕ)
+abbrev pub list_ops : List Name
 list_ops = codes "add" ∷ codes "append" ∷ codes "prepend" ∷ codes "delete" ∷ codes "reorder" ∷ []
 
 -- the keys whose meaning is left out
-abbrev pub left_out_keys : List (List ℕ)
+abbrev pub left_out_keys : List Name
 left_out_keys = codes "references" ∷ codes "payload" ∷ codes "inherits" ∷ codes "specializes" ∷ codes "variants" ∷ codes "variantSets" ∷ codes "relocates" ∷ codes "subLayers" ∷ []
 
 -- the value says that a prim is not active

@@ -8,6 +8,7 @@ use Rattle.hd_layer.specs.declared.limits.Which.TheVariants.{Depth, Name, Elemen
 use Rattle.hd_layer.specs.Limits.{limit_of}
 use Rattle.hd_path.specs.Names.{is_identifier}
 use Rattle.hd_path.specs.Parsing.{is_slash, pieces}
+use Rattle.hd_path.specs.Paths.{Path}
 use Rattle.hd_usda.specs.reading.Cursor.{◌>>=◌, Fault, Form, is, is_word, rest, text, line_of, fault_in, take}
 use Rattle.hd_usda.specs.used.Elements.{Reads, list_of}
 use Rattle.hd_usda.specs.reading.Words.{is_long}
@@ -29,11 +30,11 @@ abbrev pub has_long : List ℕ → Bool
 has_long text = list_any is_long (pieces text)
 
 -- the names that are after the first slash
-abbrev pub names_of : List ℕ → List (List ℕ)
+abbrev pub names_of : List ℕ → Path
 names_of text = pieces (drop 1 text)
 
 -- the path that a text in this line spells
-abbrev pub path_in : ℕ → List ℕ → Result (List (List ℕ)) Fault
+abbrev pub path_in : ℕ → List ℕ → Result Path Fault
 path_in line text =
     if not (is_prim_path text) then Err (fault_in line LeftOut)
     else (if nat_lt (limit_of Depth) (count_by is_slash text) then Err (fault_in line (Limit Depth))
@@ -41,14 +42,14 @@ path_in line text =
     else Ok (names_of text)))
 
 -- PATHTEXT
-unfoldable pub target : Form (List (List ℕ))
+unfoldable pub target : Form Path
 target ts = do
   u ← take PathText ts
   path ← path_in (line_of ts) (text ts)
   Ok (path, u)
 
 -- one path, as a list
-unfoldable pub one_target : Form (List (List (List ℕ)))
+unfoldable pub one_target : Form (List Path)
 one_target ts = do
   path ← target ts
   Ok (path.0 ∷ [], path.1)
@@ -61,11 +62,11 @@ beyond_list text =
     else Limit Elements)
 
 -- paths in a list
-abbrev pub in_list : Reads (List (List ℕ))
+abbrev pub in_list : Reads Path
 in_list = record { attribute = false; begins = is PathText; beyond = beyond_list; form = λ first. target }
 
 -- targets = "None" | PATHTEXT | list of PATHTEXT
-unfoldable pub targets : Form (List (List (List ℕ)))
+unfoldable pub targets : Form (List Path)
 targets ts =
     if is_word (codes "None") ts then Ok ([], rest ts)
     else (if is PathText ts then one_target ts

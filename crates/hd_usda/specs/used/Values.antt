@@ -1,5 +1,6 @@
 -- The values of used attributes.
-use Rattle.std.specs.Prelude.{ℕ, ℤ, List, [], ◌∷◌, Bool, true, ◌||◌, Ok, Err, if◌then◌else◌, codes}
+use Rattle.std.specs.Prelude.{ℤ, List, [], ◌∷◌, Bool, true, ◌||◌, Ok, Err, if◌then◌else◌, codes}
+use Rattle.hd_path.specs.Names.{Name}
 use Rattle.hd_num.specs.declared.vector.Vec3.{Vec3}
 use Rattle.hd_num.specs.Matrices.{Rows}
 use Rattle.hd_lexer.specs.declared.lexer.Kind.TheVariants.{Text, OpenRound, CloseRound, Number, Comma}
@@ -23,16 +24,16 @@ abbrev pub triples : Reads Vec3
 triples = record { attribute = true; begins = λ ts. is OpenRound ts || is_non_finite ts; beyond = too_many; form = λ first. triple Any }
 
 -- STRING, which is an entry of an op order
-unfoldable pub op_entry : Bool → Form (List ℕ)
+unfoldable pub op_entry : Bool → Form Name
 op_entry first ts = do
   u ← need true Text ts
   if is_op_entry first (text ts) then Ok (text ts, u) else Err (fault_at ts LeftOut)
 
-abbrev pub op_entries : Reads (List ℕ)
+abbrev pub op_entries : Reads Name
 op_entries = record { attribute = true; begins = is Text; beyond = too_many; form = op_entry }
 
 -- STRING, which is one of the words
-unfoldable pub one_of : List (List ℕ) → Form (List ℕ)
+unfoldable pub one_of : List Name → Form Name
 one_of words ts = do
   u ← need true Text ts
   if is_any words (text ts) then Ok (text ts, u) else Err (fault_at ts LeftOut)
