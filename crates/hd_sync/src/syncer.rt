@@ -37,6 +37,7 @@ pub trait Syncer {
 pub struct Plain {}
 
 impl Plain {
+    /// A syncer that works on the caller.
     pub fn new() -> Plain {
         Plain {}
     }

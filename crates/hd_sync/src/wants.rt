@@ -43,7 +43,7 @@ pub(crate) fn register_wants<C: Content>(
     let second = match register_one(alloc, registry, wants.second) {
         Ok(second) => second,
         Err(refused) => {
-            release_one(registry, &first);
+            release_one(registry, first);
             return Err(refused);
         }
     };
@@ -54,8 +54,8 @@ pub(crate) fn register_wants<C: Content>(
             third,
         }),
         Err(refused) => {
-            release_one(registry, &first);
-            release_one(registry, &second);
+            release_one(registry, first);
+            release_one(registry, second);
             Err(refused)
         }
     }
@@ -108,16 +108,16 @@ pub(crate) fn release_slots<C: Content>(registry: &mut Registry<C>, slots: &Slot
     requires { HasUses (uses_of (listed slots.now)) registry.old }
     ensures { Drops registry.old registry.new (uses_of (listed slots.now)) }
 {
-    release_one(registry, &slots.first);
-    release_one(registry, &slots.second);
-    release_one(registry, &slots.third);
+    release_one(registry, slots.first);
+    release_one(registry, slots.second);
+    release_one(registry, slots.third);
 }
 
-fn release_one<C: Content>(registry: &mut Registry<C>, slot: &Option<Slot>)
-    requires { HasUses (uses slot.now) registry.old }
-    ensures { Drops registry.old registry.new (uses slot.now) }
+fn release_one<C: Content>(registry: &mut Registry<C>, slot: Option<Slot>)
+    requires { HasUses (uses slot) registry.old }
+    ensures { Drops registry.old registry.new (uses slot) }
 {
     if let Some(slot) = slot {
-        registry.release(*slot);
+        registry.release(slot);
     }
 }
