@@ -9,7 +9,7 @@ use hd_registry::{Registry, Staging};
 use std::alloc::{AllocError, Global};
 
 /// Stages each job, registers what it wants and gives it the slots.
-pub(crate) fn sync_each<T: Staging + Send>(
+pub(crate) fn sync_each<T: Staging>(
     alloc: Global,
     jobs: &mut [T],
     registry: &mut Registry<T::Content>,
@@ -34,7 +34,7 @@ pub(crate) fn sync_each<T: Staging + Send>(
 }
 
 /// Stages a job, registers what it wants, keeps the slots and gives them to it.
-fn sync_one<T: Staging + Send>(
+fn sync_one<T: Staging>(
     alloc: Global,
     job: &mut T,
     registry: &mut Registry<T::Content>,
