@@ -9,6 +9,9 @@ use hd_registry::{Registry, Staging};
 use std::alloc::{AllocError, Global};
 
 /// Stages jobs and registers what they want.
+///
+/// The work is here and not in each impl: a method of an impl may call nothing that needs `Send` of a type that it knows by a
+/// bound alone, and a registry needs it of its contents.
 pub trait Syncer {
     /// Stages each job, registers the contents that it wants, in order, and gives it their slots. Refused, all slots
     /// that were kept have their contents and users as before; entries without users may have come.

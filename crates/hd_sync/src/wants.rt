@@ -1,6 +1,6 @@
 //! The registration and the release of what jobs want.
 
-ghost use Rattle.std.specs.Prelude.{◌≡◌, ℕ, [], ◌∷◌, ◌++◌, map, IfOk, OnOk, OnErr};
+ghost use Rattle.std.specs.Prelude.{◌≡◌, ℕ, [], ◌∷◌, ◌++◌, map, None, IfOk, OnOk, OnErr};
 ghost use Rattle.std.specs.Arc.{arc_value};
 ghost use Rattle.std.specs.Option.{option_map};
 ghost use Rattle.hd_registry.specs.Entries.{HasRoom, Extends};
@@ -21,6 +21,17 @@ pub struct Slots {
 }
 
 impl Slots {
+    /// No slots.
+    pub fn none() -> Slots
+        ensures { listed result ≡ None ∷ None ∷ None ∷ [] }
+    {
+        Slots {
+            first: None,
+            second: None,
+            third: None,
+        }
+    }
+
     /// The slots in the order of the wants.
     pub fn listed(&self) -> [Option<Slot>; 3]
         ensures { result ≡ listed self.now }
