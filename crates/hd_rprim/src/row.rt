@@ -1,7 +1,7 @@
 //! Rows: what a renderer keeps of each prim that it can use.
 
 ghost use Rattle.std.specs.Prelude.{◌≡◌, IfOk};
-ghost use Rattle.hd_rprim.specs.Rows.{blank};
+ghost use Rattle.hd_rprim.specs.Rows.{blank, blank_rprim, blank_instancer};
 
 use hd_num::{List, Matrix, Rgb, Vec3};
 use hd_path::{Path, Token};
@@ -118,7 +118,9 @@ impl Row {
 }
 
 impl RprimRow {
-    fn blank(shape: Shape) -> RprimRow {
+    fn blank(shape: Shape) -> RprimRow
+        ensures { result ≡ blank_rprim shape }
+    {
         RprimRow {
             shape,
             matrix: None,
@@ -153,7 +155,9 @@ impl RprimRow {
 }
 
 impl InstancerRow {
-    fn blank() -> InstancerRow {
+    fn blank() -> InstancerRow
+        ensures { result ≡ blank_instancer }
+    {
         InstancerRow {
             matrix: None,
             visible: false,
