@@ -1,2 +1,3 @@
-mod Counting
-mod Fanning
+pub mod Counting
+pub mod Fanning
+pub mod Sorting

@@ -34,6 +34,16 @@ impl Model for BoxedRow {
     ghost view = { λ row. row.boxed.value };
 }
 
+impl BoxedRow {
+    /// The row alone, taken off the heap.
+    fn into_row(self) -> Row
+        ensures { result ≡ self.row }
+    {
+        let PathRow { path: _, row } = Box::into_inner(self.boxed);
+        row
+    }
+}
+
 /// The rows of an index: each with its path, in path order, and no path twice.
 #[derive(Drop)]
 pub struct RowTable {
@@ -84,12 +94,7 @@ impl RowTable {
         ensures others { self.new ≡ rows_without path.now self.old }
     {
         match place_of(&self.rows, path) {
-            Ok(i) => {
-                let BoxedRow { boxed } = self.rows.remove(i);
-                let PathRow { path, row } = Box::into_inner(boxed);
-                let _ = path;
-                Some(row)
-            }
+            Ok(i) => Some(self.rows.remove(i).into_row()),
             Err(_) => None,
         }
     }
@@ -146,7 +151,9 @@ impl RowTable {
     /// The paths of the rows ascend, so no path is there twice.
     pub fn paths_ascend(&self)
         ensures { IsStrictlySortedBy path_cmp (paths_of_rows self.now) }
-    {}
+    {
+        let _ = &self.rows;
+    }
 }
 
 /// Where the row of the path is, or else where it would be put.
