@@ -42,7 +42,10 @@ pub fn stage(
         }
         Row::Camera(matrix) => Ok((Row::Camera(stage_matrix(*matrix, bits, prim)), no_wants())),
         Row::Material(color) => Ok((Row::Material(stage_color(*color, bits, prim)), no_wants())),
-        Row::Instancer(row) => Ok((Row::Instancer(stage_instancer(row, bits, prim)?), no_wants())),
+        Row::Instancer(row) => Ok((
+            Row::Instancer(stage_instancer(row, bits, prim)?),
+            no_wants(),
+        )),
     }
 }
 
@@ -117,11 +120,7 @@ fn stage_rprim(row: &RprimRow, bits: Bits, prim: &Prim) -> Result<RprimRow, Allo
     })
 }
 
-fn stage_instancer(
-    row: &InstancerRow,
-    bits: Bits,
-    prim: &Prim,
-) -> Result<InstancerRow, AllocError>
+fn stage_instancer(row: &InstancerRow, bits: Bits, prim: &Prim) -> Result<InstancerRow, AllocError>
     ensures { IfOk result (λ made. made ≡ staged_instancer (number_of bits) (values_of prim.now) row.now) }
 {
     Ok(InstancerRow {
@@ -164,11 +163,7 @@ fn stage_purpose(old: Purpose, bits: Bits, prim: &Prim) -> Purpose
     }
 }
 
-fn stage_binding(
-    old: &Option<Path>,
-    bits: Bits,
-    prim: &Prim,
-) -> Result<Option<Path>, AllocError>
+fn stage_binding(old: &Option<Path>, bits: Bits, prim: &Prim) -> Result<Option<Path>, AllocError>
     ensures { IfOk result (λ path. path ≡ renewed (number_of bits) group.Binding (binding_in (values_of prim.now)) old.now) }
 {
     if bits.has(Group::Binding) {

@@ -1,4 +1,4 @@
-use Rattle.std.proofs.Common.{arith, ◌≡◌, ◌+◌, ◌++◌, ◌∙◌, get_or, pos, ap, sym, append_assoc, to_z, of_z, w64}
+use Rattle.std.proofs.Common.{arith, ◌≡◌, ◌++◌, ◌∙◌, get_or, pos, ap, sym, append_assoc, to_z, of_z, w64}
 use Rattle.std.proofs.lemmas.Int.{to_z-of_z}
 use Rattle.hd_rprim.specs.Fans.{fans_from}
 use Rattle.hd_rprim.proofs.Counting.{takes_next, faces_next}

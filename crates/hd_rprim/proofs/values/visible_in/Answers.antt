@@ -1,4 +1,4 @@
-use Rattle.std.proofs.Common.{◌≡◌, ◌∙◌, ap, option_copied}
+use Rattle.std.proofs.Common.{◌∙◌, ap}
 use Rattle.hd_flattening.specs.Values.{is_set}
 use Rattle.hd_rprim.proofs.values.visible_in.Goals as goal
 
