@@ -82,7 +82,7 @@ before-filter : (p : PathRow → Bool) (t : Path) (rows : List PathRow) → IsBe
 before-filter p t [] h = tt
 before-filter p t (r ∷ rows) h = elim (p r) as (λ b. IsBefore t (cond b (r ∷ filter p rows) (filter p rows))) [ true ↦ (h.0, before-filter p t rows h.1) | false ↦ before-filter p t rows h.1 ]
 
-pub rows-filter : (p : PathRow → Bool) (rows : List PathRow) → AreRows rows → AreRows (filter p rows)
+rows-filter : (p : PathRow → Bool) (rows : List PathRow) → AreRows rows → AreRows (filter p rows)
 unfolding IsStrictlySortedBy
 rows-filter p [] h = tt
 rows-filter p (r ∷ rows) h = elim (p r) as (λ b. AreRows (cond b (r ∷ filter p rows) (filter p rows))) [ true ↦ (before-filter p r.path rows h.0, rows-filter p rows h.1) | false ↦ rows-filter p rows h.1 ]
@@ -149,7 +149,7 @@ placed_rows t row rows h =
 
 -- the place of a path
 
-pub row_at_place : (t : Path) (rows : List PathRow) (i : ℕ) (d : PathRow) → AreRows rows → i < length rows → (get_or rows i d).path ≡ t → row_of t rows ≡ Some (get_or rows i d).row
+row_at_place : (t : Path) (rows : List PathRow) (i : ℕ) (d : PathRow) → AreRows rows → i < length rows → (get_or rows i d).path ≡ t → row_of t rows ≡ Some (get_or rows i d).row
 unfolding IsStrictlySortedBy
 row_at_place t [] i d h l is = absurd (omega arith)
 row_at_place t (r ∷ rows) zero d h l is = ap (λ b. if b then Some r.row else row_of t rows) (same_here r.path t is)
@@ -157,7 +157,7 @@ row_at_place t (r ∷ rows) (suc i) d h l is =
     let further : path_cmp r.path t ≡ Less = subst (λ (w : Path). path_cmp r.path w ≡ Less) is (before_get r.path rows i d h.0 (omega arith)) in
     ap (λ b. if b then Some r.row else row_of t rows) (below_apart r.path t further) ∙ row_at_place t rows i d h.1 (omega arith) is
 
-pub place_at : (t : Path) (rows : List PathRow) (i : ℕ) (d : PathRow) → AreRows rows → i < length rows → (get_or rows i d).path ≡ t → place_of t rows ≡ Some i
+place_at : (t : Path) (rows : List PathRow) (i : ℕ) (d : PathRow) → AreRows rows → i < length rows → (get_or rows i d).path ≡ t → place_of t rows ≡ Some i
 unfolding IsStrictlySortedBy
 place_at t [] i d h l is = absurd (omega arith)
 place_at t (r ∷ rows) zero d h l is = ap (λ b. if b then Some 0 else option_map suc (place_of t rows)) (same_here r.path t is)
@@ -165,7 +165,7 @@ place_at t (r ∷ rows) (suc i) d h l is =
     let further : path_cmp r.path t ≡ Less = subst (λ (w : Path). path_cmp r.path w ≡ Less) is (before_get r.path rows i d h.0 (omega arith)) in
     ap (λ b. if b then Some 0 else option_map suc (place_of t rows)) (below_apart r.path t further) ∙ ap (option_map suc) (place_at t rows i d h.1 (omega arith) is)
 
-pub set_place : (t : Path) (row : Row) (rows : List PathRow) (i : ℕ) (d : PathRow) → AreRows rows → i < length rows → (get_or rows i d).path ≡ t → set rows i (record { path = t; row = row }) ≡ rows_with t row rows
+set_place : (t : Path) (row : Row) (rows : List PathRow) (i : ℕ) (d : PathRow) → AreRows rows → i < length rows → (get_or rows i d).path ≡ t → set rows i (record { path = t; row = row }) ≡ rows_with t row rows
 unfolding IsStrictlySortedBy
 set_place t row [] i d h l is = absurd (omega arith)
 set_place t row (r ∷ rows) zero d h l is =
@@ -185,7 +185,7 @@ none_dropped : (t : Path) (rows : List PathRow) → IsBefore t rows → rows_wit
 none_dropped t [] h = refl
 none_dropped t (r ∷ rows) h = ap (λ b. cond (not b) (r ∷ rows_without t rows) (rows_without t rows)) (above_apart r.path t (above_turned t r.path h.0)) ∙ ap (λ rs. r ∷ rs) (none_dropped t rows h.1)
 
-pub remove_place : (t : Path) (rows : List PathRow) (i : ℕ) (d : PathRow) → AreRows rows → i < length rows → (get_or rows i d).path ≡ t → remove rows i ≡ rows_without t rows
+remove_place : (t : Path) (rows : List PathRow) (i : ℕ) (d : PathRow) → AreRows rows → i < length rows → (get_or rows i d).path ≡ t → remove rows i ≡ rows_without t rows
 unfolding IsStrictlySortedBy
 remove_place t [] i d h l is = absurd (omega arith)
 remove_place t (r ∷ rows) zero d h l is =
@@ -253,7 +253,7 @@ set_row [] i d row l = absurd (omega arith)
 set_row (r ∷ rows) zero d row l = refl
 set_row (r ∷ rows) (suc i) d row l = ap (λ rs. r ∷ rs) (set_row rows i d row (omega arith))
 
-pub same_paths : (rows : List PathRow) (i : ℕ) (row : Row) → paths_of_rows (with_row_at i row rows) ≡ paths_of_rows rows
+same_paths : (rows : List PathRow) (i : ℕ) (row : Row) → paths_of_rows (with_row_at i row rows) ≡ paths_of_rows rows
 same_paths [] i row = refl
 same_paths (r ∷ rows) zero row = refl
 same_paths (r ∷ rows) (suc i) row = ap (λ ps. r.path ∷ ps) (same_paths rows i row)
