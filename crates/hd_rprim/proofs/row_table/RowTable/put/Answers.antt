@@ -29,10 +29,10 @@ pub invariant_of-self-in_ok-insert-in-Err : goal.invariant_of-self-in_ok-insert-
 invariant_of-self-in_ok-insert-in-Err c =
     let rows = c.self.inside.rows.items in
     let gap : IsGap c.args.path rows c.in-Err.i = subst (λ (rs : List PathRow). IsGap c.args.path rs c.in-Err.i) c.deref.ensures.value c.in-Err.ensures.missing in
-    let new : c.insert.new.self.items ≡ rows_with c.args.path c.args.row rows =
-    c.in_ok-insert-in-Err.ensures.items ∙ ap (insert rows c.in-Err.i) c.in_ok-new.ensures.ok ∙ insert_gap c.args.path c.args.row rows c.in-Err.i gap
+    let placed : insert rows c.in-Err.i c.in_ok-new.field-0.value ≡ rows_with c.args.path c.args.row rows =
+    ap (insert rows c.in-Err.i) c.in_ok-new.ensures.ok ∙ insert_gap c.args.path c.args.row rows c.in-Err.i gap
     in
-    subst AreRows (sym new) (placed_rows c.args.path c.args.row rows c.self.invariant)
+    subst AreRows (sym (c.in_ok-insert-in-Err.ensures.items ∙ placed)) (placed_rows c.args.path c.args.row rows c.self.invariant)
 
 pub returns-in_ok-insert-in-Err-clause-ok : goal.returns-in_ok-insert-in-Err-clause-ok
 returns-in_ok-insert-in-Err-clause-ok c =
