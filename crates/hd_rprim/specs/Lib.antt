@@ -1,3 +1,4 @@
+pub mod Digests
 pub mod Fans
 pub mod Readings
 pub mod Rows

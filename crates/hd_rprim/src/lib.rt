@@ -2,6 +2,7 @@
 #![tactic(auto)]
 
 mod buffer;
+mod content;
 mod fans;
 mod row;
 mod row_table;
