@@ -1,7 +1,9 @@
 pub mod Digests
 pub mod Fans
+pub mod PrimRows
 pub mod Readings
 pub mod Rows
+pub mod Shown
 pub mod Staged
 pub mod Tables
 pub mod inner
