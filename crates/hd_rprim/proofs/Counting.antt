@@ -11,7 +11,7 @@ abbrev pub takes : List ℤ → ℕ → Bool
 takes counts left = list_all (int_le (pos 0)) counts && (sum_by nat_abs counts == left)
 
 -- the first face is taken off
-first_taken : (count : ℤ) (counts rest : List ℤ) → takes_all (count ∷ counts) rest ≡ true → takes_all counts (drop (nat_abs count) rest) ≡ true
+pub first_taken : (count : ℤ) (counts rest : List ℤ) → takes_all (count ∷ counts) rest ≡ true → takes_all counts (drop (nat_abs count) rest) ≡ true
 first_taken count counts rest h = grind (arith, nat_tests, common_steps, length-drop)
 
 -- the counts after the next one take what it leaves

@@ -1,3 +1,9 @@
+pub mod ChangedRows
 pub mod Counting
+pub mod FanTriangles
 pub mod Fanning
+pub mod KindRows
+pub mod ReadParts
+pub mod RowLookups
 pub mod Sorting
+pub mod StagedRows

@@ -18,7 +18,7 @@ use Rattle.hd_rprim.specs.inner.Places.{IsPlace, IsGap}
 
 -- the order of paths
 
-order_itself : (p : Path) → path_cmp p p ≡ Equal
+pub order_itself : (p : Path) → path_cmp p p ≡ Equal
 order_itself p = tied_itself path_cmp_total p
 
 order_turned : (p q : Path) → path_cmp p q ≡ ordering_reverse (path_cmp q p)
@@ -48,7 +48,7 @@ below_apart p q e = apart p q Less e (λ h. absurd (cc))
 above_apart : (p q : Path) → path_cmp p q ≡ Greater → is_same_path p q ≡ false
 above_apart p q e = apart p q Greater e (λ h. absurd (cc))
 
-same_here : (p q : Path) → p ≡ q → is_same_path p q ≡ true
+pub same_here : (p q : Path) → p ≡ q → is_same_path p q ≡ true
 same_here p q e = (is_same_path-decides p q).1 e
 
 -- the order to a third path rises with the path
@@ -101,10 +101,10 @@ paths_rise (r ∷ rows) (suc i) (suc j) d h less l = paths_rise rows i j d h.1 (
 
 -- the rows below a path, and those above it
 
-abbrev under : Path → List PathRow → List PathRow
+abbrev pub under : Path → List PathRow → List PathRow
 under t rows = filter (λ r. is_lt (path_cmp r.path t)) rows
 
-abbrev above : Path → List PathRow → List PathRow
+abbrev pub above : Path → List PathRow → List PathRow
 above t rows = filter (λ r. is_gt (path_cmp r.path t)) rows
 
 none_under : (t : Path) (rows : List PathRow) → IsBefore t rows → under t rows ≡ []

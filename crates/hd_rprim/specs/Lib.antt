@@ -1,5 +1,6 @@
 pub mod Digests
 pub mod Fans
+pub mod Laws
 pub mod PrimRows
 pub mod Readings
 pub mod Rows

@@ -4,7 +4,6 @@ use Rattle.hd_path.specs.Paths.{Path}
 use Rattle.hd_registry.specs.Entries.{Entries}
 use Rattle.hd_sync.specs.Syncing.{contents_given}
 use Rattle.hd_rprim.specs.declared.buffer.Buffer.{Buffer}
-use Rattle.hd_rprim.specs.declared.row.RprimRow.{RprimRow}
 use Rattle.hd_rprim.specs.declared.row.Row.{Row}
 use Rattle.hd_rprim.specs.declared.row.Row.TheVariants.{Rprim, Camera, Material, Instancer}
 use Rattle.hd_rprim.specs.declared.row_table.PathRow.{PathRow}
