@@ -59,7 +59,7 @@ pub struct Entry<C> {
 }
 
 /// The place of a content in a registry.
-#[derive(Clone, Copy, PartialEq, Eq)]
+#[derive(Clone, Copy, PartialEq, Eq, Hash)]
 pub struct Slot {
     place: usize,
 }

@@ -111,6 +111,13 @@ impl<C: Content> Registry<C> {
         entries::users(&self.entries, slot.place())
     }
 
+    /// No two slots have equal content.
+    pub fn contents_are_unique(&self)
+        ensures { Unique self.now }
+    {
+        let _ = &self.entries;
+    }
+
     /// How many entries are kept, those without users too.
     pub fn live(&self) -> usize
         ensures { result ≡ live_entries self.now }
