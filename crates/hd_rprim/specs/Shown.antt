@@ -1,7 +1,7 @@
 -- Rows as they are shown: with the contents of their slots in place of the slots.
-use Rattle.std.specs.Prelude.{ℕ, List, [], ◌∷◌, Option, None}
+use Rattle.std.specs.Prelude.{◌≡◌, ℕ, Bool, true, List, [], ◌∷◌, All, Option, Some, None}
 use Rattle.hd_path.specs.Paths.{Path}
-use Rattle.hd_registry.specs.Entries.{Entries}
+use Rattle.hd_registry.specs.Entries.{Entries, is_kept}
 use Rattle.hd_sync.specs.Syncing.{contents_given}
 use Rattle.hd_rprim.specs.declared.buffer.Buffer.{Buffer}
 use Rattle.hd_rprim.specs.declared.row.Row.{Row}
@@ -29,3 +29,15 @@ pub record ShownRow : Type 0 where
 -- a row of a table, with the contents that its slots have in a registry
 abbrev pub shown : Entries Buffer → PathRow → ShownRow
 shown entries r = record { path = r.path; row = without_slots r.row; contents = contents_given entries (slots_of r.row) }
+
+-- whether a slot, where there is one, is kept
+abbrev pub is_slot_kept : Entries Buffer → Option ℕ → Bool
+is_slot_kept entries None = true
+is_slot_kept entries (Some slot) = is_kept entries slot
+
+abbrev pub KeepsSlot : Entries Buffer → Option ℕ → Type 0
+KeepsSlot entries slot = is_slot_kept entries slot ≡ true
+
+-- each slot of each row is kept
+abbrev pub KeepsSlots : List PathRow → Entries Buffer → Type 0
+KeepsSlots rows entries = All (λ r. All (KeepsSlot entries) (slots_of r.row)) rows
