@@ -1,0 +1,4 @@
+pub mod Between
+pub mod ClearBits
+pub mod Keeping
+pub mod Tracking

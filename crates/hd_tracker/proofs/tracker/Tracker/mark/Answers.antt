@@ -1,0 +1,33 @@
+use Rattle.std.proofs.Common.{◌≡◌, ℕ, Option, Some, None, MutBor, is_some, sym, ◌∙◌, ap}
+use Rattle.std.specs.BTreeMap as tree
+use Rattle.std.specs.FinMap.{get}
+use Rattle.std.specs.Option.{option_copied_mut}
+use Rattle.hd_path.specs.Paths.{path_cmp}
+use Rattle.hd_dirty.specs.Bits.{number_of}
+use Rattle.hd_tracker.specs.declared.tracker.Tracked.{Tracked}
+use Rattle.hd_tracker.specs.Tracks.{Tracks, bits_numbered, with_bits, marked_by}
+use Rattle.hd_tracker.proofs.Keeping.{tracks_of, changed_at, unchanged_at}
+use Rattle.hd_tracker.proofs.tracker.Tracker.mark.Goals as goal
+use Rattle.hd_tracker.proofs.tracker.Tracker.mark.Goals.{in-Some, in_default}
+
+pub returns : goal.returns
+returns c = λ p.
+    let m = c.self.inside.kept in
+    let path = c.args.path.now in
+    let bits = number_of c.args.bits in
+    let seen : marked_by path bits p (get (tracks_of m) p) ≡ marked_by path bits p (get c.args.self.now p) = ap (λ (tracks : Tracks). marked_by path bits p (get tracks p)) c.self.view_is in
+    elim c.match-get_mut.branch [
+      | in-Some w ↦
+          let t = w.in-Some.tracked.now in
+          let new : Tracked = record { kind = t.kind; bits = w.union-tracked.result } in
+          let there : tree.get path_cmp m path ≡ Some t = sym c.get_mut.ensures.value ∙ ap (λ (o : Option (MutBor Tracked)). option_copied_mut o) w.in-Some.is in
+          let is : new ≡ with_bits bits t = ap (λ (n : ℕ). record { kind = t.kind; bits = bits_numbered n }) (w.union-tracked.ensures tt) in
+          ap (λ x. get (tracks_of x.kept) p) w.self-inside-is
+          ∙ changed_at m (c.get_mut.follows.lender new) path (with_bits bits) t new there is ((c.get_mut.follows.holds new).3 (ap is_some there)).0 p
+          ∙ seen
+      | in_default w ↦
+          let none : tree.get path_cmp m path ≡ None = sym c.get_mut.ensures.value ∙ ap (λ (o : Option (MutBor Tracked)). option_copied_mut o) w.in_default.is in
+          ap (λ x. get (tracks_of x.kept) p) w.self-inside-is
+          ∙ unchanged_at m c.get_mut.follows.lender-at-none path (with_bits bits) none c.get_mut.follows.holds-at-none p
+          ∙ seen
+    ]
