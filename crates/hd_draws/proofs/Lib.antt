@@ -1,0 +1,7 @@
+pub mod Copies
+pub mod RowDraws
+pub mod DrawLaws
+pub mod FarPoints
+pub mod Nearness
+pub mod Pushing
+pub mod Rows

@@ -1,0 +1,5 @@
+pub mod Cameras
+pub mod DrawList
+pub mod Laws
+pub mod Placements
+pub mod inner
