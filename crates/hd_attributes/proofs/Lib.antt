@@ -1,0 +1,10 @@
+pub mod Layers
+pub mod Values
+pub mod PrimKinds
+pub mod Targets
+pub mod Ops
+pub mod Instanced
+pub mod Ways
+pub mod Flat
+pub mod Read
+pub mod Index
