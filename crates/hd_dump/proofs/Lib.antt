@@ -1,0 +1,4 @@
+mod Agreement
+mod Counting
+mod Dumping
+mod Lists

@@ -1,0 +1,5 @@
+pub mod Contents
+pub mod Dumps
+pub mod Lines
+pub mod Texts
+pub mod inner
