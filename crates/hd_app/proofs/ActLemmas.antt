@@ -7,9 +7,6 @@ use Rattle.hd_io.specs.Causes.{Rose}
 use Rattle.hd_io.specs.Acts.{Act, file, line, files_of, text_of, open_after, Cut, Outside, Adds, Wrote, WroteCut, NoFault, WriteFailed}
 use Rattle.hd_io.proofs.Cuts.{cut_nothing}
 
-pub same_faults : (before : Outside) → NoFault before before
-same_faults before = record { rack = refl; sink = refl }
-
 files_joined : (first more : List Act) → files_of (first ++ more) ≡ files_of first ++ files_of more
 files_joined [] more = refl
 files_joined (file name bytes ∷ acts) more = ap (λ (files : FileList). (name, bytes) ∷ files) (files_joined acts more)
@@ -81,10 +78,6 @@ cut_of_more (line bytes ∷ acts) more files text (inr (inr whole)) = inr (inr (
 
 pub wrote_cut_of_more : (acts more : List Act) (before now : Outside) → WroteCut acts before now → WroteCut (acts ++ more) before now
 wrote_cut_of_more acts more before now cut = (cut.0, cut.1, cut_of_more acts more cut.0 cut.1 cut.2, cut.3)
-
--- nothing was made of no acts
-pub wrote_cut_of_none : (acts : List Act) (before now : Outside) → WroteCut [] before now → WroteCut acts before now
-wrote_cut_of_none acts before now cut = (cut.0, cut.1, nothing_of_more acts cut.0 cut.1 cut.2, cut.3)
 
 pub faults_joined : (before mid now : Outside) → NoFault before mid → NoFault mid now → NoFault before now
 faults_joined before mid now a b = record { rack = b.rack ∙ a.rack; sink = b.sink ∙ a.sink }

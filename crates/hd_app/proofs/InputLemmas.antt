@@ -187,13 +187,17 @@ reached_first name out told file is = record {
   before = none_before told (name ∷ []);
 }
 
-named_first : (name file : List ℕ) → file ≡ name → Contains (name ∷ []) file
+pub named_first : (name file : List ℕ) → file ≡ name → Contains (name ∷ []) file
 named_first name file is = is_named (name ∷ []) 0 name file refl is
 
 told_refused : (name out : List ℕ) (refusal : Status) (told : Option FileMap) → IfSome told (λ files. layer_in files name ≡ Err refusal)
-    → IfSome told (λ files. outcome_of files (Some (draw name out)) ≡ refusal_outcome refusal)
+    → IfSome told (λ files. outcome_of files (Some (draw name out)) [] ≡ refusal_outcome refusal)
 told_refused name out refusal None read = tt
-told_refused name out refusal (Some files) read = ap (draw_if_read out) read
+told_refused name out refusal (Some files) read = ap (draw_if_read name out) read
+
+-- the count of the bytes that a file may have is that of their limit
+is_byte_limit : (which : Which) (count : ℕ) → which ≡ Bytes → count ≡ byte_limit → count ≡ limit_of which
+is_byte_limit which count bytes is = is ∙ sym (ap limit_of bytes)
 
 -- a command of one layer
 pub layer_refuses : (name out : List ℕ) (before now : ShelfState) (status : Status) → RefusesLayer name before now status → RefusesFiles (draw name out) before now status
@@ -205,7 +209,7 @@ layer_refuses name out before now (Layer file line cause) why = record {
 }
 layer_refuses name out before now (Limit (File file) which count) why = record {
   faults = why.0;
-  answer = (draws_one name out, named_first name file why.1.0, why.1.1, why.1.2, why.1.3);
+  answer = (draws_one name out, named_first name file why.1.0, is_byte_limit which count why.1.1 why.1.2, inl (why.1.1, why.1.3));
   told = told_refused name out (Limit (File file) which count) before.files why.2;
 }
 layer_refuses name out before now (Limit (Line file line) which count) why = record {
@@ -225,17 +229,17 @@ few_of : (layers : List (List ℕ)) → length layers ≤ 8 → nat_lt (limit_of
 few_of layers few = grind (arith, nat_tests)
 
 step_told : (files : FileMap) (layers : List (List ℕ)) (script : List ℕ) → length layers ≤ 8
-    → step_outcome files layers script ≡ step_if_read script (layers_in files layers) (script_in files script)
+    → step_outcome files layers script [] ≡ step_if_read script [] (layers_in files layers) (script_in files script)
 step_told files layers script few = rw (few_of layers few) refl
 
 -- a layer of several was refused
 told_layers : (layers : List (List ℕ)) (script : List ℕ) (place : ℕ) (name : List ℕ) (refusal : Status) (told : Option FileMap) → length layers ≤ 8
     → slice_get layers place ≡ Some name → IfSome told (λ files. SpellLayers files (take place layers)) → IfSome told (λ files. layer_in files name ≡ Err refusal)
-    → IfSome told (λ files. outcome_of files (Some (step layers script)) ≡ refusal_outcome refusal)
+    → IfSome told (λ files. outcome_of files (Some (step layers script)) [] ≡ refusal_outcome refusal)
 told_layers layers script place name refusal None few named spelled is = tt
 told_layers layers script place name refusal (Some files) few named spelled is =
     step_told files layers script few
-    ∙ ap (λ (r : Result (List LayerSpec) Status). step_if_read script r (script_in files script)) (refused_at files layers place name refusal named spelled is)
+    ∙ ap (λ (r : Result (List LayerSpec) Status). step_if_read script [] r (script_in files script)) (refused_at files layers place name refusal named spelled is)
 
 told_before : (layers : List (List ℕ)) (script : List ℕ) (place : ℕ) (told : Option FileMap) → place ≤ length layers
     → IfSome told (λ files. SpellLayers files (take place layers)) → IfSome told (λ files. SpellLayers files (take place (layers ++ script ∷ [])))
@@ -271,7 +275,7 @@ one_layer_refuses layers script before now place name (Layer file line cause) fe
 }
 one_layer_refuses layers script before now place name (Limit (File file) which count) few named spelled why = record {
   faults = why.0;
-  answer = (few, Contains-append_left layers (script ∷ []) file (is_named layers place name file named why.1.0), why.1.1, why.1.2, why.1.3);
+  answer = (few, Contains-append_left layers (script ∷ []) file (is_named layers place name file named why.1.0), is_byte_limit which count why.1.1 why.1.2, inl (why.1.1, why.1.3));
   told = told_layers layers script place name (Limit (File file) which count) before.files few named spelled why.2;
 }
 one_layer_refuses layers script before now place name (Limit (Line file line) which count) few named spelled why = record {
@@ -293,7 +297,7 @@ layers_refuse layers script before now status few (inr memory) = subst (λ (s : 
 
 -- more layers than eight
 told_many : (layers : List (List ℕ)) (script : List ℕ) (told : Option FileMap) → 8 < length layers
-    → IfSome told (λ files. outcome_of files (Some (step layers script)) ≡ refusal_outcome (Limit Words Layers (limit_of Layers)))
+    → IfSome told (λ files. outcome_of files (Some (step layers script)) [] ≡ refusal_outcome (Limit Words Layers (limit_of Layers)))
 told_many layers script None many = tt
 told_many layers script (Some files) many =
     let yes : nat_lt (limit_of Layers) (length layers) ≡ true = grind (arith, nat_tests) in
@@ -308,12 +312,12 @@ many_refuse layers script shelf many = record {
 
 told_script : (layers : List (List ℕ)) (script : List ℕ) (read : List LayerSpec) (refusal : Status) (told : Option FileMap) → length layers ≤ 8
     → IfSome told (λ files. layers_in files layers ≡ Ok read) → IfSome told (λ files. script_in files script ≡ Err refusal)
-    → IfSome told (λ files. outcome_of files (Some (step layers script)) ≡ refusal_outcome refusal)
+    → IfSome told (λ files. outcome_of files (Some (step layers script)) [] ≡ refusal_outcome refusal)
 told_script layers script read refusal None few are is = tt
 told_script layers script read refusal (Some files) few are is =
     step_told files layers script few
-    ∙ ap (λ (r : Result (List LayerSpec) Status). step_if_read script r (script_in files script)) are
-    ∙ ap (step_if_read script (Ok read)) is
+    ∙ ap (λ (r : Result (List LayerSpec) Status). step_if_read script [] r (script_in files script)) are
+    ∙ ap (step_if_read script [] (Ok read)) is
 
 all_before : (layers : List (List ℕ)) (script : List ℕ) (read : List LayerSpec) (told : Option FileMap) → IfSome told (λ files. layers_in files layers ≡ Ok read)
     → IfSome told (λ files. SpellLayers files (take (length layers) (layers ++ script ∷ [])))
@@ -329,7 +333,7 @@ script_named layers script =
 script_limit : (layers : List (List ℕ)) (script : List ℕ) (now : ShelfState) (place : Place) (which : Which) (count : ℕ) → length layers ≤ 8
     → place ≡ File script → which ≡ Bytes → count ≡ byte_limit → TookTooMuch now script → PassesLimit (step layers script) now place which count
 script_limit layers script now place which count few is bytes limit taken =
-    subst (λ (p : Place). PassesLimit (step layers script) now p which count) (sym is) (few, Contains-push layers script, bytes, limit, taken)
+    subst (λ (p : Place). PassesLimit (step layers script) now p which count) (sym is) (few, Contains-push layers script, is_byte_limit which count bytes limit, inl (bytes, taken))
 
 -- the script after layers that were read: the shelf as it was between them counts as before
 pub script_refuses : (layers : List (List ℕ)) (script : List ℕ) (read : List LayerSpec) (before between now : ShelfState) (status : Status) → length layers ≤ 8
@@ -364,10 +368,10 @@ script_refuses layers script read before between now WriteFault few are files fa
 -- all was read
 pub all_told : (layers : List (List ℕ)) (script : List ℕ) (read : List LayerSpec) (bytes : List ℕ) (told between : Option FileMap) → length layers ≤ 8
     → IfSome told (λ files. layers_in files layers ≡ Ok read) → between ≡ told → IfSome between (λ files. script_in files script ≡ Ok bytes)
-    → IfSome told (λ files. step_outcome files layers script ≡ outcome_of_lines script 1 (opening_state read) (lines_of bytes))
+    → IfSome told (λ files. step_outcome files layers script [] ≡ outcome_of_lines script 1 (opening_state read) [] (lines_of bytes))
 all_told layers script read bytes None between few are same is = tt
 all_told layers script read bytes (Some files) between few are same is =
     let script_is : script_in files script ≡ Ok bytes = subst (λ (f : Option FileMap). IfSome f (λ m. script_in m script ≡ Ok bytes)) same is in
     step_told files layers script few
-    ∙ ap (λ (r : Result (List LayerSpec) Status). step_if_read script r (script_in files script)) are
-    ∙ ap (step_if_read script (Ok read)) script_is
+    ∙ ap (λ (r : Result (List LayerSpec) Status). step_if_read script [] r (script_in files script)) are
+    ∙ ap (step_if_read script [] (Ok read)) script_is

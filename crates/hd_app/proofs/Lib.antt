@@ -1,14 +1,11 @@
 pub mod ActLemmas
-pub mod Counting
-pub mod CutLemmas
 pub mod EndLemmas
-pub mod Fanning
 pub mod Fronts
 pub mod InputLemmas
 pub mod LineLemmas
-pub mod Nearness
 pub mod RunLemmas
 pub mod ScriptLemmas
 pub mod TextLemmas
+pub mod Tiles
 pub mod TopLemmas
 pub mod Wholeness

@@ -1,8 +1,11 @@
 -- How the parts of a run make the run.
-use Rattle.std.proofs.Common.{◌≡◌, ℕ, ◌∙◌, List, [], ◌∷◌, Option, Some, None, Ok, refl, sym, ap, subst, inl, inr}
+use Rattle.std.proofs.Common.{◌≡◌, ◌⊎◌, ℕ, ◌∙◌, List, [], ◌∷◌, Option, Some, None, Ok, refl, sym, ap, subst, inl, inr}
 use Rattle.std.proofs.Math.Seq.{take-nil}
-use Rattle.std.specs.Prelude.{IfSome}
+use Rattle.std.specs.Prelude.{Bool, true, false, length, nat_lt, if◌then◌else◌, IfSome}
+use Rattle.hd_layer.specs.declared.limits.Which.TheVariants.{Triangles}
 use Rattle.hd_layer.specs.declared.spec.LayerSpec.{LayerSpec}
+use Rattle.hd_picture.specs.define.Pixels.{picture}
+use Rattle.hd_picture.specs.Ppm.{ppm}
 use Rattle.hd_io.specs.Files.{FileList, FileMap}
 use Rattle.hd_app.specs.declared.status.Status.{Status}
 use Rattle.hd_app.specs.declared.status.Status.TheVariants.{Done, Usage, Layer, Script, Limit, ReadFault, WriteFault, NoMemory}
@@ -10,13 +13,14 @@ use Rattle.hd_io.specs.Acts.{Act, line, Cut, Outside, Adds, WroteCut, WriteFaile
 use Rattle.hd_app.specs.Commands.{Program, draw}
 use Rattle.hd_app.specs.inner.Stages.{Ends, Runs}
 use Rattle.hd_app.specs.Endings.{IsReadFault}
-use Rattle.hd_app.specs.Outcomes.{outcome_of, draw_outcome, draw_if_read, layer_in}
+use Rattle.hd_app.specs.declared.status.Place.TheVariants.{File}
+use Rattle.hd_app.specs.Outcomes.{outcome_of, layer_frame, triangle_limit, picture_outcome, draw_outcome, draw_if_read, layer_in}
 use Rattle.hd_app.specs.Refusing.{Outcome, refusal_outcome}
 use Rattle.hd_io.specs.Shelf.{ShelfState}
-use Rattle.hd_app.specs.Runs.{IsAnswerTo}
+use Rattle.hd_app.specs.Runs.{IsOpen, IsAnswerTo}
 use Rattle.hd_app.specs.inner.Refusals.{RefusesFiles}
 use Rattle.hd_io.proofs.Cuts.{cut_nothing}
-use Rattle.hd_app.proofs.InputLemmas.{draws_one}
+use Rattle.hd_app.proofs.InputLemmas.{draws_one, named_first}
 
 -- of a line without bytes nothing can be written
 empty_line : (files : FileList) (text : List ℕ) → Cut (line [] ∷ []) files text → (files ≡ []) × (text ≡ [])
@@ -43,9 +47,9 @@ for_want_of_memory due before now status (inr (inr out)) =
 -- the outcome of the files where they are told, and any other where they are not
 due_of : Option Program → Option FileMap → Outcome → Outcome
 due_of program None other = other
-due_of program (Some files) other = outcome_of files program
+due_of program (Some files) other = outcome_of files program []
 
-told_due : (program : Option Program) (told : Option FileMap) (other : Outcome) → IfSome told (λ files. outcome_of files program ≡ due_of program told other)
+told_due : (program : Option Program) (told : Option FileMap) (other : Outcome) → IfSome told (λ files. outcome_of files program [] ≡ due_of program told other)
 unfolding due_of
 told_due program None other = tt
 told_due program (Some files) other = refl
@@ -76,7 +80,7 @@ pub usage_runs : (shelf : ShelfState) (before now : Outside) (status : Status) �
 usage_runs shelf before now status ends = inl (record {
   due = refusal_outcome Usage;
   ends = ends;
-  told = elim shelf.files as (λ told. IfSome told (λ files. outcome_of files None ≡ refusal_outcome Usage)) [ None ↦ tt | Some files ↦ refl ];
+  told = elim shelf.files as (λ told. IfSome told (λ files. outcome_of files None [] ≡ refusal_outcome Usage)) [ None ↦ tt | Some files ↦ refl ];
   faults = refl;
   answer = answers None shelf (refusal_outcome Usage) before now status refl ends;
   read = no_read_fault (refusal_outcome Usage) before now status (λ no. no) ends;
@@ -85,7 +89,7 @@ usage_runs shelf before now status ends = inl (record {
 
 -- a run that ended by the outcome of its files
 pub ran_runs : (program : Program) (due : Outcome) (shelf_before shelf_now : ShelfState) (before now : Outside) (status : Status)
-    → IfSome shelf_before.files (λ files. outcome_of files (Some program) ≡ due) → shelf_now.faults ≡ shelf_before.faults
+    → IfSome shelf_before.files (λ files. outcome_of files (Some program) [] ≡ due) → shelf_now.faults ≡ shelf_before.faults
     → IsAnswerTo (Some program) shelf_now due.ending → (IsReadFault due.ending → ⊥) → (due.ending ≡ WriteFault → ⊥)
     → Ends due before now status → Runs (Some program) shelf_before shelf_now before now status
 ran_runs program due shelf_before shelf_now before now status told kept answer read write ends = inl (record {
@@ -99,17 +103,47 @@ ran_runs program due shelf_before shelf_now before now status told kept answer r
 })
 
 told_drawn : (name out : List ℕ) (layer : LayerSpec) (told : Option FileMap) → IfSome told (λ files. layer_in files name ≡ Ok layer)
-    → IfSome told (λ files. outcome_of files (Some (draw name out)) ≡ draw_outcome out layer)
+    → IfSome told (λ files. outcome_of files (Some (draw name out)) [] ≡ draw_outcome name out layer)
 told_drawn name out layer None read = tt
-told_drawn name out layer (Some files) read = ap (draw_if_read out) read
+told_drawn name out layer (Some files) read = ap (draw_if_read name out) read
+
+-- the endings of a drawn layer: it was done, or it draws too many triangles
+abbrev EndsDrawing : List ℕ → Status → Type 0
+EndsDrawing name ending = (ending ≡ Done) ⊎ (ending ≡ Limit (File name) Triangles triangle_limit)
+
+either_drawn : (name : List ℕ) (b : Bool) (x y : Outcome) → EndsDrawing name x.ending → EndsDrawing name y.ending → EndsDrawing name (if b then x else y).ending
+either_drawn name true x y own other = own
+either_drawn name false x y own other = other
+
+draw_ends : (name out : List ℕ) (layer : LayerSpec) → EndsDrawing name (draw_outcome name out layer).ending
+draw_ends name out layer =
+    either_drawn name (nat_lt triangle_limit (length (layer_frame layer).tris))
+    (refusal_outcome (Limit (File name) Triangles triangle_limit)) (picture_outcome out (ppm 64 64 (picture (layer_frame layer)))) (inr refl) (inl refl)
+
+-- what such an ending says of itself
+draw_answers : (name out : List ℕ) (shelf : ShelfState) (ending : Status) → IsOpen shelf name → EndsDrawing name ending → IsAnswerTo (Some (draw name out)) shelf ending
+draw_answers name out shelf ending is_open (inl is) = subst (IsAnswerTo (Some (draw name out)) shelf) (sym is) (draws_one name out)
+draw_answers name out shelf ending is_open (inr is) =
+    subst (IsAnswerTo (Some (draw name out)) shelf) (sym is) (draws_one name out, named_first name name refl, refl, inr (refl, tt, is_open))
+
+draw_reads : (name : List ℕ) (ending : Status) → EndsDrawing name ending → IsReadFault ending → ⊥
+draw_reads name ending (inl is) fault = subst IsReadFault is fault
+draw_reads name ending (inr is) fault = subst IsReadFault is fault
+
+draw_writes : (name : List ℕ) (ending : Status) → EndsDrawing name ending → ending ≡ WriteFault → ⊥
+draw_writes name ending (inl is) fault = let no : Done ≡ WriteFault = sym is ∙ fault in cc
+draw_writes name ending (inr is) fault = let no : Limit (File name) Triangles triangle_limit ≡ WriteFault = sym is ∙ fault in cc
 
 -- a layer that was read is drawn
 pub drawn_runs : (name out : List ℕ) (layer : LayerSpec) (shelf_before shelf_now : ShelfState) (before now : Outside) (status : Status)
-    → IfSome shelf_before.files (λ files. layer_in files name ≡ Ok layer) → shelf_now.faults ≡ shelf_before.faults
-    → Ends (draw_outcome out layer) before now status → Runs (Some (draw name out)) shelf_before shelf_now before now status
-drawn_runs name out layer shelf_before shelf_now before now status read kept ends =
-    ran_runs (draw name out) (draw_outcome out layer) shelf_before shelf_now before now status
-    (told_drawn name out layer shelf_before.files read) kept (draws_one name out) (λ no. no) (λ (no : Done ≡ WriteFault). cc) ends
+    → IfSome shelf_before.files (λ files. layer_in files name ≡ Ok layer) → shelf_now.faults ≡ shelf_before.faults → IsOpen shelf_now name
+    → Ends (draw_outcome name out layer) before now status → Runs (Some (draw name out)) shelf_before shelf_now before now status
+drawn_runs name out layer shelf_before shelf_now before now status read kept is_open ends =
+    let due : Outcome = draw_outcome name out layer in
+    let own = draw_ends name out layer in
+    ran_runs (draw name out) due shelf_before shelf_now before now status
+    (told_drawn name out layer shelf_before.files read) kept (draw_answers name out shelf_now due.ending is_open own)
+    (draw_reads name due.ending own) (draw_writes name due.ending own) ends
 
 -- files that were refused are told
 pub refused_runs : (program : Program) (refusal : Status) (shelf_before shelf_now : ShelfState) (before now : Outside) (status : Status)

@@ -29,7 +29,7 @@ use Rattle.hd_app.specs.Outcomes.{step_outcome}
 use Rattle.hd_app.specs.Refusing.{Outcome}
 use Rattle.hd_io.specs.Shelf.{ShelfState}
 use Rattle.hd_app.specs.Runs.{IsOpen, IsAnswerTo}
-use Rattle.hd_app.specs.Scripts.{LineStep, line_refusal, line_step, step_of_line, continue_from, lines_of, outcome_of_lines}
+use Rattle.hd_app.specs.Scripts.{LineStep, line_refusal, after_command, line_step, outcome_after, lines_of, outcome_of_lines}
 use Rattle.hd_app.proofs.RunLemmas.{ran_runs}
 
 -- the endings of a script: it was done, or one of its lines is refused
@@ -53,33 +53,35 @@ line_refusal_ends name number (fault.Limit which) other = (refl, refl)
 line_refusal_ends name number fault.NoMemory other = other refl
 
 -- how a line ends a script, if it ends it
-abbrev pub EndsIfRefused : List ℕ → LineStep → Type 0
-EndsIfRefused name (Ok done) = Unit {0}
+abbrev pub EndsIfRefused : List ℕ → Result State Status → Type 0
+EndsIfRefused name (Ok after) = Unit {0}
 EndsIfRefused name (Err status) = EndsScript name status
 
-command_ends : (name : List ℕ) (number : ℕ) (st : session.Step) → ((why : Refusal) → st ≡ Err why → is_own_cause why ≡ true) → EndsIfRefused name (step_of_line name number st)
-command_ends name number (Ok done) own = tt
+command_ends : (name : List ℕ) (number : ℕ) (after : Result State Refusal) → ((why : Refusal) → after ≡ Err why → is_own_cause why ≡ true) → EndsIfRefused name (after_command name number after)
+command_ends name number (Ok after) own = tt
 command_ends name number (Err (refusal.Script cause)) own = tt
 command_ends name number (Err (refusal.Limit which)) own = (refl, refl)
 command_ends name number (Err refusal.WriteFault) own = let no : false ≡ true = own refusal.WriteFault refl in cc
 command_ends name number (Err refusal.NoMemory) own = let no : false ≡ true = own refusal.NoMemory refl in cc
 
-line_ends : (name : List ℕ) (number : ℕ) (s : State) (read : Result (Option Command) LineFault) → (read ≡ Err fault.NoMemory → ⊥) → EndsIfRefused name (line_step name number s read)
-line_ends name number s (Ok None) wants = tt
-line_ends name number s (Ok (Some c)) wants = command_ends name number (session.step s c) (have_own_causes s c)
-line_ends name number s (Err why) wants = line_refusal_ends name number why (λ is. wants (ap (λ (w : LineFault). Err w) is))
+line_ends : (name : List ℕ) (number : ℕ) (s : State) (tiles : List ℕ) (read : Result (Option Command) LineFault) → (read ≡ Err fault.NoMemory → ⊥)
+    → EndsIfRefused name (line_step name number s tiles read).after
+line_ends name number s tiles (Ok None) wants = tt
+line_ends name number s tiles (Ok (Some c)) wants = command_ends name number (session.step s c tiles).after (have_own_causes s c tiles)
+line_ends name number s tiles (Err why) wants = line_refusal_ends name number why (λ is. wants (ap (λ (w : LineFault). Err w) is))
 
-continued_ends : (name : List ℕ) (further : State → Outcome) (st : LineStep) → EndsIfRefused name st → ((after : State) → EndsScript name (further after).ending)
-    → EndsScript name (continue_from further st).ending
-continued_ends name further (Ok done) own rest = rest done.0
-continued_ends name further (Err status) own rest = own
+continued_ends : (name : List ℕ) (further : State → List ℕ → Outcome) (after : Result State Status) (tiles : List ℕ) → EndsIfRefused name after
+    → ((s : State) (left : List ℕ) → EndsScript name (further s left).ending) → EndsScript name (outcome_after further after tiles).ending
+continued_ends name further (Ok after) tiles own rest = rest after tiles
+continued_ends name further (Err status) tiles own rest = own
 
 -- each script ends so
-pub script_ends : (name : List ℕ) (number : ℕ) (s : State) (lines : List (List ℕ)) → EndsScript name (outcome_of_lines name number s lines).ending
-script_ends name number s [] = tt
-script_ends name number s (line ∷ lines) =
-    continued_ends name (λ after. outcome_of_lines name (number + 1) after lines) (line_step name number s (reads_line line))
-    (line_ends name number s (reads_line line) (no_want line)) (λ after. script_ends name (number + 1) after lines)
+pub script_ends : (name : List ℕ) (number : ℕ) (s : State) (tiles : List ℕ) (lines : List (List ℕ)) → EndsScript name (outcome_of_lines name number s tiles lines).ending
+script_ends name number s tiles [] = tt
+script_ends name number s tiles (line ∷ lines) =
+    let step : LineStep = line_step name number s tiles (reads_line line) in
+    continued_ends name (λ after left. outcome_of_lines name (number + 1) after left lines) step.after step.tiles
+    (line_ends name number s tiles (reads_line line) (no_want line)) (λ after left. script_ends name (number + 1) after left lines)
 
 -- what such an ending says of itself
 pub script_answers : (layers : List (List ℕ)) (name : List ℕ) (shelf : ShelfState) (status : Status) → length layers ≤ 8 → IsOpen shelf name → EndsScript name status → IsAnswerTo (Some (step layers name)) shelf status
@@ -144,11 +146,11 @@ some_layers (word ∷ words) layers script is =
 
 -- a script that was run over layers that were read
 pub stepped_runs : (layers : List (List ℕ)) (script : List ℕ) (read : List LayerSpec) (bytes : List ℕ) (shelf_before shelf_now : ShelfState) (before now : Outside) (status : Status) → length layers ≤ 8
-    → IfSome shelf_before.files (λ files. step_outcome files layers script ≡ outcome_of_lines script 1 (opening_state read) (lines_of bytes)) → shelf_now.faults ≡ shelf_before.faults → IsOpen shelf_now script
-    → Ends (outcome_of_lines script 1 (opening_state read) (lines_of bytes)) before now status → Runs (Some (step layers script)) shelf_before shelf_now before now status
+    → IfSome shelf_before.files (λ files. step_outcome files layers script [] ≡ outcome_of_lines script 1 (opening_state read) [] (lines_of bytes)) → shelf_now.faults ≡ shelf_before.faults → IsOpen shelf_now script
+    → Ends (outcome_of_lines script 1 (opening_state read) [] (lines_of bytes)) before now status → Runs (Some (step layers script)) shelf_before shelf_now before now status
 stepped_runs layers script read bytes shelf_before shelf_now before now status few told kept is_open ends =
-    let own = script_ends script 1 (opening_state read) (lines_of bytes) in
-    ran_runs (step layers script) (outcome_of_lines script 1 (opening_state read) (lines_of bytes)) shelf_before shelf_now before now status told kept
-    (script_answers layers script shelf_now (outcome_of_lines script 1 (opening_state read) (lines_of bytes)).ending few is_open own)
-    (script_reads script (outcome_of_lines script 1 (opening_state read) (lines_of bytes)).ending own)
-    (script_writes script (outcome_of_lines script 1 (opening_state read) (lines_of bytes)).ending own) ends
+    let own = script_ends script 1 (opening_state read) [] (lines_of bytes) in
+    ran_runs (step layers script) (outcome_of_lines script 1 (opening_state read) [] (lines_of bytes)) shelf_before shelf_now before now status told kept
+    (script_answers layers script shelf_now (outcome_of_lines script 1 (opening_state read) [] (lines_of bytes)).ending few is_open own)
+    (script_reads script (outcome_of_lines script 1 (opening_state read) [] (lines_of bytes)).ending own)
+    (script_writes script (outcome_of_lines script 1 (opening_state read) [] (lines_of bytes)).ending own) ends

@@ -1,5 +1,5 @@
 -- What a run promises.
-use Rattle.std.proofs.Common.{◌≡◌, ◌⊎◌, ℕ, ◌∙◌, List, Option, Some, None, sym, ap, subst, inl, inr}
+use Rattle.std.proofs.Common.{◌≡◌, ◌⊎◌, ℕ, ◌∙◌, List, [], Option, Some, None, sym, ap, subst, inl, inr}
 use Rattle.std.specs.Prelude.{IfSome, IsSomeAnd}
 use Rattle.hd_io.specs.Causes.{Rose}
 use Rattle.hd_io.specs.Files.{FileMap}
@@ -16,8 +16,8 @@ use Rattle.hd_app.specs.Runs.{Interrupted}
 use Rattle.hd_app.proofs.ActLemmas.{wrote_cut}
 use Rattle.hd_app.proofs.RunLemmas.{ends_in_fault}
 
-ending_told : (told : Option FileMap) (program : Option Program) (due : Outcome) (status : Status) → IfSome told (λ files. outcome_of files program ≡ due) → (status ≡ due.ending) ⊎ (status ≡ NoMemory)
-    → IfSome told (λ files. (status ≡ (outcome_of files program).ending) ⊎ (status ≡ NoMemory))
+ending_told : (told : Option FileMap) (program : Option Program) (due : Outcome) (status : Status) → IfSome told (λ files. outcome_of files program [] ≡ due) → (status ≡ due.ending) ⊎ (status ≡ NoMemory)
+    → IfSome told (λ files. (status ≡ (outcome_of files program []).ending) ⊎ (status ≡ NoMemory))
 ending_told None program due status is ending = tt
 ending_told (Some files) program due status is (inl own) = inl (own ∙ ap (λ (o : Outcome). o.ending) (sym is))
 ending_told (Some files) program due status is (inr memory) = inr memory
@@ -32,7 +32,7 @@ ends_unfailed due before now status rack sink (inr (inr out)) = inr out.ending
 pub complete : (program : Option Program) (shelf_before shelf_now : ShelfState) (before now : Outside) (status : Status)
     → Runs program shelf_before shelf_now before now status
     → (Rose shelf_before.faults shelf_now.faults → ⊥) → (Rose before.rack.faults now.rack.faults → ⊥) → (Rose before.sink.faults now.sink.faults → ⊥)
-    → IfSome shelf_before.files (λ files. (status ≡ (outcome_of files program).ending) ⊎ (status ≡ NoMemory))
+    → IfSome shelf_before.files (λ files. (status ≡ (outcome_of files program []).ending) ⊎ (status ≡ NoMemory))
 complete program shelf_before shelf_now before now status (inl by_files) shelf rack sink =
     ending_told shelf_before.files program by_files.due status by_files.told (ends_unfailed by_files.due before now status rack sink by_files.ends)
 complete program shelf_before shelf_now before now status (inr fault) shelf rack sink = absurd (shelf fault.failed.rose)
@@ -79,20 +79,20 @@ ends_cut due before now status (inr (inl off)) = off.written
 ends_cut due before now status (inr (inr out)) = out.written
 
 cut_told : (told : Option FileMap) (program : Option Program) (due : Outcome) (shelf_before shelf_now : ShelfState) (before now : Outside)
-    → IfSome told (λ files. outcome_of files program ≡ due) → WroteCut due.acts before now → IfSome told (λ files. Interrupted program files shelf_before shelf_now before now)
+    → IfSome told (λ files. outcome_of files program [] ≡ due) → WroteCut due.acts before now → IfSome told (λ files. Interrupted program files [] shelf_before shelf_now before now)
 cut_told None program due shelf_before shelf_now before now is cut = tt
 cut_told (Some files) program due shelf_before shelf_now before now is cut = inl (subst (λ (o : Outcome). WroteCut o.acts before now) (sym is) cut)
 
 cut_by_fault : (told : Option FileMap) (program : Option Program) (file : List ℕ) (shelf_before shelf_now : ShelfState) (before now : Outside)
     → Rose shelf_before.faults shelf_now.faults → shelf_now.failed ≡ Some file → WroteCut (refusal_outcome (ReadFault file)).acts before now
-    → IfSome told (λ files. Interrupted program files shelf_before shelf_now before now)
+    → IfSome told (λ files. Interrupted program files [] shelf_before shelf_now before now)
 cut_by_fault None program file shelf_before shelf_now before now rose named cut = tt
 cut_by_fault (Some files) program file shelf_before shelf_now before now rose named cut =
     inr (rose, subst (λ (o : Option (List ℕ)). IsSomeAnd o (λ name. WroteCut (refusal_outcome (ReadFault name)).acts before now)) (sym named) cut)
 
 -- what an interrupted run has written
 pub cut : (program : Option Program) (shelf_before shelf_now : ShelfState) (before now : Outside) (status : Status)
-    → Runs program shelf_before shelf_now before now status → IfSome shelf_before.files (λ files. Interrupted program files shelf_before shelf_now before now)
+    → Runs program shelf_before shelf_now before now status → IfSome shelf_before.files (λ files. Interrupted program files [] shelf_before shelf_now before now)
 cut program shelf_before shelf_now before now status (inl by_files) =
     cut_told shelf_before.files program by_files.due shelf_before shelf_now before now by_files.told (ends_cut by_files.due before now status by_files.ends)
 cut program shelf_before shelf_now before now status (inr fault) =

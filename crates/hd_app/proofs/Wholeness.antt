@@ -6,8 +6,10 @@ use Rattle.hd_usda.specs.Layer.{reads}
 use Rattle.hd_layer.specs.Limits.{limit_of}
 use Rattle.hd_layer.specs.declared.fault.LayerWhy.{LayerWhy}
 use Rattle.hd_layer.specs.declared.fault.LayerWhy.TheVariants as why
-use Rattle.hd_layer.specs.declared.limits.Which.TheVariants.{Layers, Bytes}
+use Rattle.hd_layer.specs.declared.limits.Which.TheVariants.{Layers, Bytes, Triangles}
 use Rattle.hd_layer.specs.declared.spec.LayerSpec.{LayerSpec}
+use Rattle.hd_picture.specs.define.Pixels.{picture}
+use Rattle.hd_picture.specs.Ppm.{ppm}
 use Rattle.hd_io.specs.Files.{FileMap, bytes_of}
 use Rattle.hd_session.specs.States.{opening_state}
 use Rattle.hd_app.specs.declared.status.Status.{Status}
@@ -16,7 +18,7 @@ use Rattle.hd_app.specs.declared.status.Place.TheVariants.{Words, File}
 use Rattle.hd_app.specs.Commands.{Program, draw, step, command}
 use Rattle.hd_app.specs.Endings.{IsInterruption}
 use Rattle.hd_app.specs.Laws.{OutcomesEndWhole}
-use Rattle.hd_app.specs.Outcomes.{refusal_at, layer_spelled, layer_of_file, layer_in, draw_if_read, with_layer, layers_in, script_of_file, script_in, step_if_read, outcome_of, byte_limit}
+use Rattle.hd_app.specs.Outcomes.{layer_frame, triangle_limit, picture_outcome, refusal_at, layer_spelled, layer_of_file, layer_in, draw_if_read, with_layer, layers_in, script_of_file, script_in, step_if_read, outcome_of, byte_limit}
 use Rattle.hd_app.specs.Refusing.{Outcome, refusal_outcome}
 use Rattle.hd_app.specs.Scripts.{lines_of, outcome_of_lines}
 use Rattle.hd_app.proofs.ScriptLemmas.{EndsScript, script_ends}
@@ -71,27 +73,29 @@ lines_well name (Script line cause) ends is = is
 lines_well name (Limit place which count) ends is = is
 lines_well name (ReadFault file) ends is = is
 
-drawn_well : (out : List ℕ) (read : Result LayerSpec Status) → EndsWell read → ¬ IsInterruption (draw_if_read out read).ending
-drawn_well out (Ok layer) own = λ is. is
-drawn_well out (Err status) own = own
-
-stepped_well : (name : List ℕ) (layers : Result (List LayerSpec) Status) (script : Result (List ℕ) Status) → EndsWell layers → EndsWell script
-    → ¬ IsInterruption (step_if_read name layers script).ending
-stepped_well name (Ok layers) (Ok script) own other =
-    lines_well name (outcome_of_lines name 1 (opening_state layers) (lines_of script)).ending (script_ends name 1 (opening_state layers) (lines_of script))
-stepped_well name (Ok layers) (Err status) own other = other
-stepped_well name (Err status) script own other = own
+stepped_well : (name tiles : List ℕ) (layers : Result (List LayerSpec) Status) (script : Result (List ℕ) Status) → EndsWell layers → EndsWell script
+    → ¬ IsInterruption (step_if_read name tiles layers script).ending
+stepped_well name tiles (Ok layers) (Ok script) own other =
+    lines_well name (outcome_of_lines name 1 (opening_state layers) tiles (lines_of script)).ending (script_ends name 1 (opening_state layers) tiles (lines_of script))
+stepped_well name tiles (Ok layers) (Err status) own other = other
+stepped_well name tiles (Err status) script own other = own
 
 either_ending : (b : Bool) (x y : Outcome) → ¬ IsInterruption x.ending → ¬ IsInterruption y.ending → ¬ IsInterruption (if b then x else y).ending
 either_ending true x y own other = own
 either_ending false x y own other = other
 
-of_program : (files : FileMap) (program : Option Program) → ¬ IsInterruption (outcome_of files program).ending
-of_program files None = λ is. is
-of_program files (Some (draw layer out)) = drawn_well out (layer_in files layer) (file_well layer (bytes_of files layer))
-of_program files (Some (step layers script)) =
-    either_ending (nat_lt (limit_of Layers) (length layers)) (refusal_outcome (Limit Words Layers (limit_of Layers))) (step_if_read script (layers_in files layers) (script_in files script))
-    (λ is. is) (stepped_well script (layers_in files layers) (script_in files script) (layers_well files layers) (script_well script (bytes_of files script)))
+drawn_well : (name out : List ℕ) (read : Result LayerSpec Status) → EndsWell read → ¬ IsInterruption (draw_if_read name out read).ending
+drawn_well name out (Ok layer) own =
+    either_ending (nat_lt triangle_limit (length (layer_frame layer).tris)) (refusal_outcome (Limit (File name) Triangles triangle_limit))
+    (picture_outcome out (ppm 64 64 (picture (layer_frame layer)))) (λ is. is) (λ is. is)
+drawn_well name out (Err status) own = own
+
+of_program : (files : FileMap) (program : Option Program) (tiles : List ℕ) → ¬ IsInterruption (outcome_of files program tiles).ending
+of_program files None tiles = λ is. is
+of_program files (Some (draw layer out)) tiles = drawn_well layer out (layer_in files layer) (file_well layer (bytes_of files layer))
+of_program files (Some (step layers script)) tiles =
+    either_ending (nat_lt (limit_of Layers) (length layers)) (refusal_outcome (Limit Words Layers (limit_of Layers))) (step_if_read script tiles (layers_in files layers) (script_in files script))
+    (λ is. is) (stepped_well script tiles (layers_in files layers) (script_in files script) (layers_well files layers) (script_well script (bytes_of files script)))
 
 pub outcomes_end_whole : OutcomesEndWhole
-outcomes_end_whole words files = of_program files (command words)
+outcomes_end_whole words files tiles = of_program files (command words) tiles

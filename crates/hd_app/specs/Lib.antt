@@ -1,11 +1,9 @@
 pub mod Commands
 pub mod Endings
-pub mod Fans
 pub mod FaultLines
 pub mod Laws
 pub mod Outcomes
 pub mod Refusing
-pub mod RootDraws
 pub mod Runs
 pub mod Scripts
 pub mod inner

@@ -1,44 +1,49 @@
 -- What the program writes, and how it ends, by its words and the files that it reads.
-use Rattle.std.specs.Prelude.{ℕ, ◌++◌, pos, List, [], ◌∷◌, length, Option, Some, None, Result, Ok, Err, nat_lt, codes, if◌then◌else◌}
-use Rattle.hd_num.specs.declared.vector.Vec3.{Vec3}
+use Rattle.std.specs.Prelude.{ℕ, ◌++◌, List, [], ◌∷◌, length, Option, Some, None, Result, Ok, Err, nat_lt, codes, if◌then◌else◌}
 use Rattle.hd_picture.specs.declared.draws.Draws.{Draws}
 use Rattle.hd_picture.specs.define.Pixels.{picture}
 use Rattle.hd_picture.specs.Ppm.{ppm}
+use Rattle.hd_draws.specs.Cameras.{default_eye}
+use Rattle.hd_draws.specs.DrawList.{draw_list}
 use Rattle.hd_layer.specs.declared.fault.LayerWhy.{LayerWhy}
 use Rattle.hd_layer.specs.declared.fault.LayerWhy.TheVariants as why
-use Rattle.hd_layer.specs.declared.limits.Which.TheVariants.{Layers, Bytes}
+use Rattle.hd_layer.specs.declared.limits.Which.TheVariants.{Layers, Bytes, Triangles}
 use Rattle.hd_layer.specs.declared.spec.LayerSpec.{LayerSpec}
 use Rattle.hd_usda.specs.reading.Cursor.{Fault}
 use Rattle.hd_usda.specs.Layer.{reads}
 use Rattle.hd_layer.specs.Limits.{limit_of}
 use Rattle.hd_io.specs.Acts.{file, line}
 use Rattle.hd_io.specs.Files.{FileMap, bytes_of}
+use Rattle.hd_retained.specs.Layers.{layer_of}
 use Rattle.hd_session.specs.States.{opening_state}
+use Rattle.hd_session.specs.Steps.{index}
 use Rattle.hd_app.specs.declared.status.Status.{Status}
 use Rattle.hd_app.specs.declared.status.Status.TheVariants.{Done, Usage, Layer, Limit, ReadFault}
 use Rattle.hd_app.specs.declared.status.Place.TheVariants.{Words, File, Line}
 use Rattle.hd_app.specs.Commands.{Program, draw, step, command}
 use Rattle.hd_app.specs.Refusing.{Outcome, refusal_outcome}
-use Rattle.hd_app.specs.RootDraws.{root_draws}
 use Rattle.hd_app.specs.Scripts.{lines_of, outcome_of_lines}
 
--- the place from which a frame is seen that names no camera
-abbrev pub default_eye : Vec3
-default_eye = record { x = pos 0; y = pos 0; z = pos 16777216 }
-
--- the frame of a drawn layer: 64 by 64 pixels
-abbrev pub root_frame : LayerSpec → Draws
-root_frame layer = record { tris = root_draws layer; eye = default_eye; width = 64; height = 64 }
+-- the frame of a drawn layer: its index, seen from the default place, in 64 by 64 pixels
+abbrev pub layer_frame : LayerSpec → Draws
+layer_frame layer = record { tris = draw_list (index (layer_of layer ∷ [])); eye = default_eye; width = 64; height = 64 }
 
 abbrev pub frame_line : List ℕ → List ℕ
 frame_line name = codes "frame " ++ name ++ codes " converged 16 of 16\n"
 
--- the picture of a layer, and the line of its frame
-abbrev pub draw_outcome : List ℕ → LayerSpec → Outcome
-draw_outcome out layer = record {
-  acts = file out (ppm 64 64 (picture (root_frame layer))) ∷ line (frame_line out) ∷ [];
-  ending = Done;
-}
+-- a picture's file, and the line of its frame
+abbrev pub picture_outcome : (out bytes : List ℕ) → Outcome
+picture_outcome out bytes = record { acts = file out bytes ∷ line (frame_line out) ∷ []; ending = Done }
+
+-- the limit of the triangles that a frame draws
+abbrev pub triangle_limit : ℕ
+triangle_limit = limit_of Triangles
+
+-- the picture of the layer of this name, or the refusal of one that draws too many triangles
+abbrev pub draw_outcome : (name out : List ℕ) → LayerSpec → Outcome
+draw_outcome name out layer =
+    if nat_lt triangle_limit (length (layer_frame layer).tris) then refusal_outcome (Limit (File name) Triangles triangle_limit)
+    else picture_outcome out (ppm 64 64 (picture (layer_frame layer)))
 
 -- the refusal of a file with this fault in the line of this number: a limit that is passed there, or what else is wrong
 abbrev pub refusal_at : (name : List ℕ) (number : ℕ) → LayerWhy → Status
@@ -67,9 +72,9 @@ abbrev pub layer_in : FileMap → List ℕ → Result LayerSpec Status
 layer_in files name = layer_of_file name (bytes_of files name)
 
 -- the picture of a layer that was read
-abbrev pub draw_if_read : List ℕ → Result LayerSpec Status → Outcome
-draw_if_read out (Ok layer) = draw_outcome out layer
-draw_if_read out (Err status) = refusal_outcome status
+abbrev pub draw_if_read : (name out : List ℕ) → Result LayerSpec Status → Outcome
+draw_if_read name out (Ok layer) = draw_outcome name out layer
+draw_if_read name out (Err status) = refusal_outcome status
 
 -- one more layer
 abbrev pub with_layer : Result LayerSpec Status → Result (List LayerSpec) Status → Result (List LayerSpec) Status
@@ -91,22 +96,23 @@ abbrev pub script_in : FileMap → List ℕ → Result (List ℕ) Status
 script_in files name = script_of_file name (bytes_of files name)
 
 -- the script of this name over layers, where all were read
-abbrev pub step_if_read : List ℕ → Result (List LayerSpec) Status → Result (List ℕ) Status → Outcome
-step_if_read name (Ok layers) (Ok script) = outcome_of_lines name 1 (opening_state layers) (lines_of script)
-step_if_read name (Ok layers) (Err status) = refusal_outcome status
-step_if_read name (Err status) script = refusal_outcome status
+abbrev pub step_if_read : (name tiles : List ℕ) → Result (List LayerSpec) Status → Result (List ℕ) Status → Outcome
+step_if_read name tiles (Ok layers) (Ok script) = outcome_of_lines name 1 (opening_state layers) tiles (lines_of script)
+step_if_read name tiles (Ok layers) (Err status) = refusal_outcome status
+step_if_read name tiles (Err status) script = refusal_outcome status
 
 -- the script over the layers; there are at most eight
-abbrev pub step_outcome : FileMap → List (List ℕ) → List ℕ → Outcome
-step_outcome files layers script =
+abbrev pub step_outcome : FileMap → List (List ℕ) → (script tiles : List ℕ) → Outcome
+step_outcome files layers script tiles =
     if nat_lt (limit_of Layers) (length layers) then refusal_outcome (Limit Words Layers (limit_of Layers))
-    else step_if_read script (layers_in files layers) (script_in files script)
+    else step_if_read script tiles (layers_in files layers) (script_in files script)
 
-abbrev pub outcome_of : FileMap → Option Program → Outcome
-outcome_of files None = refusal_outcome Usage
-outcome_of files (Some (draw layer out)) = draw_if_read out (layer_in files layer)
-outcome_of files (Some (step layers script)) = step_outcome files layers script
+abbrev pub outcome_of : FileMap → Option Program → (tiles : List ℕ) → Outcome
+outcome_of files None tiles = refusal_outcome Usage
+outcome_of files (Some (draw layer out)) tiles = draw_if_read layer out (layer_in files layer)
+outcome_of files (Some (step layers script)) tiles = step_outcome files layers script tiles
 
--- what is written for these words over these files, and the status
-abbrev pub outcome : List (List ℕ) → FileMap → Outcome
-outcome words files = outcome_of files (command words)
+-- what is written for these words over these files, and the status; frames that end before they are drawn whole have these counts
+-- of tiles, in order
+abbrev pub outcome : List (List ℕ) → FileMap → (tiles : List ℕ) → Outcome
+outcome words files tiles = outcome_of files (command words) tiles

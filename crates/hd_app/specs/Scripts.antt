@@ -43,33 +43,41 @@ command_refusal script number refusal.NoMemory = NoMemory
 
 -- what a line does, or why it is refused
 abbrev pub LineStep : Type 0
-LineStep = Result session.Done Status
+LineStep = session.Step Status
 
-abbrev pub step_of_line : (script : List ℕ) (number : ℕ) → session.Step → LineStep
-step_of_line script number (Ok done) = Ok done
-step_of_line script number (Err why) = Err (command_refusal script number why)
+-- the state after a command, or the refusal of its line
+abbrev pub after_command : (script : List ℕ) (number : ℕ) → Result State Refusal → Result State Status
+after_command script number (Ok after) = Ok after
+after_command script number (Err why) = Err (command_refusal script number why)
 
--- what the line of this number does, by what it reads as
-abbrev pub line_step : (script : List ℕ) (number : ℕ) → State → Result (Option Command) LineFault → LineStep
-line_step script number s (Ok None) = Ok (s, [])
-line_step script number s (Ok (Some command)) = step_of_line script number (session.step s command)
-line_step script number s (Err why) = Err (line_refusal script number why)
+abbrev pub step_of_line : (script : List ℕ) (number : ℕ) → session.Step Refusal → LineStep
+step_of_line script number step = record { acts = step.acts; after = after_command script number step.after; tiles = step.tiles }
+
+-- what the line of this number does, by what it reads as, where frames that it ends have these counts of tiles
+abbrev pub line_step : (script : List ℕ) (number : ℕ) → State → (tiles : List ℕ) → Result (Option Command) LineFault → LineStep
+line_step script number s tiles (Ok None) = session.silent (Ok s) tiles
+line_step script number s tiles (Ok (Some command)) = step_of_line script number (session.step s command tiles)
+line_step script number s tiles (Err why) = session.silent (Err (line_refusal script number why)) tiles
 
 -- acts, and after them an outcome
 abbrev pub after_acts : List Act → Outcome → Outcome
 after_acts acts outcome = record { acts = acts ++ outcome.acts; ending = outcome.ending }
 
--- an outcome that goes on from the state of a step, or ends in its refusal
-abbrev pub continue_from : (State → Outcome) → LineStep → Outcome
-continue_from further (Ok done) = after_acts done.1 (further done.0)
-continue_from further (Err status) = refusal_outcome status
+-- what comes after the acts of a step: an outcome from its state and the counts of tiles that are left, or its refusal
+abbrev pub outcome_after : (State → List ℕ → Outcome) → Result State Status → (tiles : List ℕ) → Outcome
+outcome_after further (Ok after) tiles = further after tiles
+outcome_after further (Err status) tiles = refusal_outcome status
+
+abbrev pub continue_from : (State → List ℕ → Outcome) → LineStep → Outcome
+continue_from further step = after_acts step.acts (outcome_after further step.after step.tiles)
 
 -- the outcome of the end of a script
-abbrev pub end_of_script : session.Done → Outcome
-end_of_script done = record { acts = done.1; ending = Done }
+abbrev pub end_of_script : session.Step Refusal → Outcome
+end_of_script step = record { acts = step.acts; ending = Done }
 
--- the outcome of lines, of which the first has this number, from a state on
-abbrev pub outcome_of_lines : (script : List ℕ) (number : ℕ) → State → (lines : List (List ℕ)) → Outcome
-outcome_of_lines script number s [] = end_of_script (session.at_end s)
-outcome_of_lines script number s (line ∷ lines) =
-    continue_from (λ after. outcome_of_lines script (number + 1) after lines) (line_step script number s (reads_line line))
+-- the outcome of lines, of which the first has this number, from a state on, where the frames that end before they are drawn
+-- whole have these counts of tiles
+abbrev pub outcome_of_lines : (script : List ℕ) (number : ℕ) → State → (tiles : List ℕ) → (lines : List (List ℕ)) → Outcome
+outcome_of_lines script number s tiles [] = end_of_script (session.finish s tiles)
+outcome_of_lines script number s tiles (line ∷ lines) =
+    continue_from (λ after left. outcome_of_lines script (number + 1) after left lines) (line_step script number s tiles (reads_line line))

@@ -1,6 +1,6 @@
 //! The files of a command that runs a script.
 
-ghost use Rattle.std.specs.Prelude.{◌≡◌, ◌≤◌, length, map, string_bytes, All, IfOk, IfErr, IfSome, IsTrue, OnOk, Ok, Some, vec_len};
+ghost use Rattle.std.specs.Prelude.{◌≡◌, ◌≤◌, [], length, map, string_bytes, All, IfOk, IfErr, IfSome, IsTrue, OnOk, Ok, Some, vec_len};
 ghost use Rattle.hd_session.specs.States.{opening_state};
 ghost use Rattle.hd_layer.specs.WellFormed.{is_layer};
 ghost use Rattle.hd_app.specs.Commands.{step};
@@ -70,8 +70,8 @@ pub fn read_inputs<S: Shelf>(
     script: &str,
 ) -> Result<(Vec<LayerSpec>, Vec<u8>), Status>
     requires { 1 ≤ length layers.now }
-    ensures told { IfOk result (λ read. IfSome (S.state shelf.old).files (λ files. step_outcome files (map string_bytes layers.now) script.now
-        ≡ outcome_of_lines script.now 1 (opening_state read.0.items) (lines_of read.1.items))) }
+    ensures told { IfOk result (λ read. IfSome (S.state shelf.old).files (λ files. step_outcome files (map string_bytes layers.now) script.now []
+        ≡ outcome_of_lines script.now 1 (opening_state read.0.items) [] (lines_of read.1.items))) }
     ensures some { IfOk result (λ read. 1 ≤ vec_len read.0) }
     ensures few { IfOk result (λ read. vec_len read.0 ≤ 8) }
     ensures taken { OnOk result (length layers.now ≤ 8) }

@@ -1,6 +1,6 @@
 //! Layers, read by the names of their files.
 
-ghost use Rattle.std.specs.Prelude.{◌≡◌, ◌≤◌, length, IfOk, IfErr, IfSome, IsTrue, OnOk, Ok};
+ghost use Rattle.std.specs.Prelude.{◌≡◌, ◌≤◌, length, IfOk, IfErr, IfSome, IsTrue, OnOk, Ok, Some};
 ghost use Rattle.hd_layer.specs.WellFormed.{is_layer};
 ghost use Rattle.hd_app.specs.Outcomes.{layer_in, layer_of_bytes, refusal_at, byte_limit};
 ghost use Rattle.hd_app.specs.inner.Refusals.{status_of_stop, status_of_fault, RefusesBytes, RefusesLayer, ReadsWithin};
@@ -62,6 +62,7 @@ fn unread(file: List<u8>, fault: LayerFault) -> Status
 pub fn read_layer<S: Shelf>(alloc: Global, shelf: &mut S, name: &str) -> Result<LayerSpec, Status>
     ensures layer { IfOk result (λ layer. IfSome (S.state shelf.old).files (λ files. layer_in files name.now ≡ Ok layer)) }
     ensures formed { IfOk result (λ layer. IsTrue (is_layer layer)) }
+    ensures left_open { OnOk result ((S.state shelf.new).opened ≡ Some name.now) }
     ensures kept { OnOk result ((S.state shelf.new).faults ≡ (S.state shelf.old).faults) }
     ensures refusal { IfErr result (RefusesLayer name.now
         (S.state shelf.old)

@@ -5,7 +5,6 @@ mod frame;
 mod inputs;
 mod laws;
 mod layer;
-mod meshes;
 mod reading;
 mod script;
 mod status;
@@ -13,6 +12,6 @@ mod top;
 mod words;
 mod writing;
 
-pub use laws::outcomes_end_whole;
+pub use laws::{endings_ignore_tiles, outcomes_end_whole};
 pub use status::{Place, Status};
 pub use top::top_plain;

@@ -1,11 +1,11 @@
 //! A script, line by line.
 
-ghost use Rattle.std.specs.Prelude.{◌≡◌, ◌<◌, ◌≤◌, ◌⊎◌, ◌∷◌, false, length, All, OnOk, IfErr, IfSome, IsTrue, nat_eq, option_copied, vec_len};
+ghost use Rattle.std.specs.Prelude.{◌≡◌, ◌<◌, ◌≤◌, ◌⊎◌, [], ◌∷◌, false, length, All, OnOk, IfErr, IfSome, IsTrue, nat_eq, option_copied, vec_len};
 ghost use Rattle.std.specs.List.{position};
 ghost use Rattle.hd_script.specs.Commands.{reads_line};
 ghost use Rattle.hd_script.specs.WellFormed.{is_command};
 ghost use Rattle.hd_session.specs.Answers.{Does};
-ghost use Rattle.hd_session.specs.Steps.{step, at_end};
+ghost use Rattle.hd_session.specs.Steps.{step, finish};
 ghost use Rattle.hd_session.specs.States.{opening_state};
 ghost use Rattle.hd_layer.specs.Limits.{limit_of};
 ghost use Rattle.hd_layer.specs.WellFormed.{is_layer};
@@ -22,6 +22,7 @@ use hd_io::{Rack, Sink};
 use hd_layer::{LayerSpec, Which};
 use hd_script::{Command, LineFault};
 use hd_session::{Refusal, ScriptWhy, Session};
+use hd_sync::Plain;
 use std::alloc::Global;
 
 /// The refusal of a line that passes a limit.
@@ -68,7 +69,7 @@ fn command_refusal(alloc: Global, name: &str, number: u32, refusal: Refusal) -> 
 /// Does the command of the line of this number.
 fn run_command<K: Rack, O: Sink>(
     alloc: Global,
-    session: &mut Session,
+    session: &mut Session<Plain>,
     name: &str,
     number: u32,
     command: &Command,
@@ -77,11 +78,11 @@ fn run_command<K: Rack, O: Sink>(
 ) -> Result<(), Status>
     requires unspent { session.old.is_spent ≡ false }
     requires formed { IsTrue (is_command command.now) }
-    ensures done { OnOk result (Does (step_of_line name.now number (step session.old.state command.now)) session.new.state
+    ensures done { OnOk result (Does (step_of_line name.now number (step session.old.state command.now [])) session.new.state
         (record { rack = K.state rack.old; sink = O.state out.old })
         (record { rack = K.state rack.new; sink = O.state out.new })) }
     ensures unspent { OnOk result (session.new.is_spent ≡ false) }
-    ensures refusal { IfErr result (RefusesLine (step_of_line name.now number (step session.old.state command.now))
+    ensures refusal { IfErr result (RefusesLine (step_of_line name.now number (step session.old.state command.now []))
         (record { rack = K.state rack.old; sink = O.state out.old })
         (record { rack = K.state rack.new; sink = O.state out.new })) }
 {
@@ -94,7 +95,7 @@ fn run_command<K: Rack, O: Sink>(
 /// Does the line of this number.
 fn run_line<K: Rack, O: Sink>(
     alloc: Global,
-    session: &mut Session,
+    session: &mut Session<Plain>,
     name: &str,
     number: u32,
     line: &[u8],
@@ -102,11 +103,11 @@ fn run_line<K: Rack, O: Sink>(
     out: &mut O,
 ) -> Result<(), Status>
     requires unspent { session.old.is_spent ≡ false }
-    ensures done { OnOk result (Does (line_step name.now number session.old.state (reads_line line.now)) session.new.state
+    ensures done { OnOk result (Does (line_step name.now number session.old.state [] (reads_line line.now)) session.new.state
         (record { rack = K.state rack.old; sink = O.state out.old })
         (record { rack = K.state rack.new; sink = O.state out.new })) }
     ensures unspent { OnOk result (session.new.is_spent ≡ false) }
-    ensures refusal { IfErr result (RefusesLine (line_step name.now number session.old.state (reads_line line.now))
+    ensures refusal { IfErr result (RefusesLine (line_step name.now number session.old.state [] (reads_line line.now))
         (record { rack = K.state rack.old; sink = O.state out.old })
         (record { rack = K.state rack.new; sink = O.state out.new })) }
 {
@@ -148,9 +149,9 @@ fn unfinished(refusal: Refusal) -> Status
 }
 
 /// Ends a script that was read to its end.
-fn end_script<K: Rack, O: Sink>(session: &mut Session, rack: &mut K, out: &mut O) -> Status
+fn end_script<K: Rack, O: Sink>(session: &mut Session<Plain>, rack: &mut K, out: &mut O) -> Status
     requires unspent { session.old.is_spent ≡ false }
-    ensures ends { Ends (end_of_script (at_end session.old.state))
+    ensures ends { Ends (end_of_script (finish session.old.state []))
         (record { rack = K.state rack.old; sink = O.state out.old })
         (record { rack = K.state rack.new; sink = O.state out.new }) result }
 {
@@ -163,7 +164,7 @@ fn end_script<K: Rack, O: Sink>(session: &mut Session, rack: &mut K, out: &mut O
 /// Does the lines of the script of this name, one after the other, and answers how that ended.
 fn run_script<K: Rack, O: Sink>(
     alloc: Global,
-    session: &mut Session,
+    session: &mut Session<Plain>,
     name: &str,
     bytes: &[u8],
     rack: &mut K,
@@ -171,7 +172,7 @@ fn run_script<K: Rack, O: Sink>(
 ) -> Status
     requires unspent { session.old.is_spent ≡ false }
     requires short { length bytes.now ≤ byte_limit }
-    ensures ends { Ends (outcome_of_lines name.now 1 session.old.state (lines_of bytes.now))
+    ensures ends { Ends (outcome_of_lines name.now 1 session.old.state [] (lines_of bytes.now))
         (record { rack = K.state rack.old; sink = O.state out.old })
         (record { rack = K.state rack.new; sink = O.state out.new }) result }
 {
@@ -201,11 +202,11 @@ pub fn run_over<K: Rack, O: Sink>(
     requires few { vec_len layers ≤ 8 }
     requires formed { All (λ layer. IsTrue (is_layer layer)) layers.items }
     requires short { length bytes.now ≤ byte_limit }
-    ensures ends { Ends (outcome_of_lines name.now 1 (opening_state layers.items) (lines_of bytes.now))
+    ensures ends { Ends (outcome_of_lines name.now 1 (opening_state layers.items) [] (lines_of bytes.now))
         (record { rack = K.state rack.old; sink = O.state out.old })
         (record { rack = K.state rack.new; sink = O.state out.new }) result }
 {
-    match Session::open(alloc, layers) {
+    match Session::open(alloc, layers, Plain::new()) {
         Ok(mut session) => run_script(alloc, &mut session, name, bytes, rack, out),
         Err(_) => Status::NoMemory,
     }

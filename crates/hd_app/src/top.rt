@@ -1,6 +1,6 @@
 //! The call that the program makes.
 
-ghost use Rattle.std.specs.Prelude.{◌≡◌, ◌+◌, ◌≤◌, ◌⊎◌, Some, IfSome, length, map, max, string_bytes};
+ghost use Rattle.std.specs.Prelude.{◌≡◌, ◌+◌, ◌≤◌, ◌⊎◌, [], Some, IfSome, length, map, max, string_bytes};
 ghost use Rattle.hd_io.specs.Causes.{Rose};
 ghost use Rattle.hd_io.specs.Acts.{Wrote, NoFault, WriteFailed};
 ghost use Rattle.hd_app.specs.Endings.{EndsWhole, IsDecided, IsReadFault, IsInterruption};
@@ -39,7 +39,7 @@ fn draw<S: Shelf, R: Rack, O: Sink>(
         (S.state shelf.new) }
 {
     match read_layer(alloc, shelf, layer) {
-        Ok(layer) => show(alloc, &layer, name, rack, out),
+        Ok(read) => show(alloc, read, layer, name, rack, out),
         Err(refusal) => refuse(alloc, refusal, out),
     }
 }
@@ -97,11 +97,11 @@ fn run<S: Shelf, R: Rack, O: Sink>(
 
 /// Does what the words of the command line say, those after the program's name, and answers how it ended.
 ///
-/// `draw LAYER OUT` reads the layer from the file `LAYER`, draws its meshes to a picture of 64 by 64 pixels, writes
-/// that to the file `OUT`, and then the line of its frame. `step LAYER.. SCRIPT` reads one to eight layers, of which the
-/// first is the strongest, and does what the lines of the file `SCRIPT` say, one after the other. Other words are no
+/// `draw LAYER OUT` reads the layer from the file `LAYER`, draws its meshes and points to a picture of 64 by 64 pixels,
+/// writes that to the file `OUT`, and then the line of its frame. `step LAYER.. SCRIPT` reads one to eight layers, of which
+/// the first is the strongest, and does what the lines of the file `SCRIPT` say, one after the other. Other words are no
 /// command. A refusal writes the one line that tells it, after what was written before. Where a write fails or memory
-/// runs out, nothing more is written.
+/// runs out, nothing more is written. No frame ends before it is drawn whole.
 pub fn top_plain<S: Shelf, R: Rack, O: Sink>(
     alloc: Global,
     words: &[String],
@@ -110,7 +110,7 @@ pub fn top_plain<S: Shelf, R: Rack, O: Sink>(
     out: &mut O,
 ) -> Status
     // The answer, the files and the lines are those of the written outcome, and no object failed.
-    ensures outcome { IsDecided result → IfSome (S.state shelf.old).files (λ files. EndsWhole (outcome (map string_bytes words.now) files)
+    ensures outcome { IsDecided result → IfSome (S.state shelf.old).files (λ files. EndsWhole (outcome (map string_bytes words.now) files [])
         (record { rack = R.state rack.old; sink = O.state out.old })
         (record { rack = R.state rack.new; sink = O.state out.new }) result) }
     ensures unfailed_shelf { IsDecided result → (S.state shelf.new).faults ≡ (S.state shelf.old).faults }
@@ -120,7 +120,7 @@ pub fn top_plain<S: Shelf, R: Rack, O: Sink>(
 
     // Where no count of faults rose, the answer is the outcome's, but where memory ran out.
     ensures complete { ¬ Rose (S.state shelf.old).faults (S.state shelf.new).faults → ¬ Rose (R.state rack.old).faults (R.state rack.new).faults → ¬ Rose (O.state out.old).faults (O.state out.new).faults
-        → IfSome (S.state shelf.old).files (λ files. (result ≡ (outcome (map string_bytes words.now) files).ending) ⊎ (result ≡ Status.NoMemory)) }
+        → IfSome (S.state shelf.old).files (λ files. (result ≡ (outcome (map string_bytes words.now) files []).ending) ⊎ (result ≡ Status.NoMemory)) }
 
     // What each answer says of itself, whether or not the files are told.
     ensures answer { IsAnswerTo (command (map string_bytes words.now))
@@ -137,7 +137,7 @@ pub fn top_plain<S: Shelf, R: Rack, O: Sink>(
         → WriteFailed
         (record { rack = R.state rack.old; sink = O.state out.old })
         (record { rack = R.state rack.new; sink = O.state out.new }) }
-    ensures cut { IsInterruption result → IfSome (S.state shelf.old).files (λ files. Interrupted (command (map string_bytes words.now)) files
+    ensures cut { IsInterruption result → IfSome (S.state shelf.old).files (λ files. Interrupted (command (map string_bytes words.now)) files []
         (S.state shelf.old)
         (S.state shelf.new)
         (record { rack = R.state rack.old; sink = O.state out.old })

@@ -1,20 +1,25 @@
 //! What a command writes: its picture and the line of its frame, or the line of its refusal.
 
-ghost use Rattle.std.specs.Prelude.{◌≡◌, [], ◌∷◌, IfOk, IfErr, OnOk, OnErr};
+ghost use Rattle.std.specs.Prelude.{◌≡◌, ◌⊎◌, [], ◌∷◌, IfOk, IfErr, IsTrue, OnOk, OnErr};
 ghost use Rattle.hd_io.specs.Causes.{HasCause};
 ghost use Rattle.hd_io.specs.Rack.{RackState};
 ghost use Rattle.hd_io.specs.Acts.{file, line, Wrote, WroteCut, WriteCause, NoFault};
 ghost use Rattle.hd_app.specs.inner.Stages.{Ends, status_of_write};
 ghost use Rattle.hd_app.specs.Endings.{IsInterruption};
 ghost use Rattle.hd_app.specs.FaultLines.{fault_line};
-ghost use Rattle.hd_app.specs.Outcomes.{draw_outcome, frame_line};
+ghost use Rattle.hd_app.specs.Outcomes.{draw_outcome, frame_line, picture_outcome, triangle_limit};
 ghost use Rattle.hd_app.specs.Refusing.{refusal_outcome};
+ghost use Rattle.hd_app.specs.declared.status.Place.TheVariants.{File};
 ghost use Rattle.hd_io.specs.Writing.{with_line, CutLine};
+ghost use Rattle.hd_layer.specs.WellFormed.{is_layer};
+ghost use Rattle.hd_layer.specs.declared.limits.Which.TheVariants.{Triangles};
 
 use crate::frame::picture_file;
-use crate::status::Status;
+use crate::layer::name_of;
+use crate::status::{Place, Status};
+use hd_draws::DrawsFault;
 use hd_io::{OutsideFault, Rack, Sink, write_file, write_line};
-use hd_layer::LayerSpec;
+use hd_layer::{LayerSpec, Which};
 use std::alloc::{AllocError, Global};
 
 /// How a run ends whose write was interrupted.
@@ -93,26 +98,58 @@ fn write_frame<R: Rack, O: Sink>(
     Ok(())
 }
 
-/// Draws a layer to a picture of this name.
+/// Writes a picture to the file of this name, and the line of its frame.
+fn show_picture<R: Rack, O: Sink>(
+    alloc: Global,
+    name: &str,
+    picture: &[u8],
+    rack: &mut R,
+    out: &mut O,
+) -> Status
+    ensures ends { Ends (picture_outcome name.now picture.now)
+        (record { rack = R.state rack.old; sink = O.state out.old })
+        (record { rack = R.state rack.new; sink = O.state out.new }) result }
+{
+    let Ok(text) = frame_line(alloc, name) else {
+        return Status::NoMemory;
+    };
+    match write_frame(rack, out, name, picture, &text) {
+        Ok(()) => Status::Done,
+        Err(fault) => status_of_write(fault),
+    }
+}
+
+/// The refusal of a layer that draws too many triangles.
+fn too_many_triangles(alloc: Global, file: &str) -> Status
+    ensures { (result ≡ Status.Limit (File file.now) Triangles triangle_limit) ⊎ (result ≡ Status.NoMemory) }
+{
+    match name_of(alloc, file) {
+        Ok(file) => Status::Limit {
+            place: Place::File(file),
+            which: Which::Triangles,
+            count: Which::Triangles.number(),
+        },
+        Err(_) => Status::NoMemory,
+    }
+}
+
+/// Draws a layer, which was read from one file, to a picture of another name.
 pub fn show<R: Rack, O: Sink>(
     alloc: Global,
-    layer: &LayerSpec,
+    layer: LayerSpec,
+    file: &str,
     name: &str,
     rack: &mut R,
     out: &mut O,
 ) -> Status
-    ensures ends { Ends (draw_outcome name.now layer.now)
+    requires { IsTrue (is_layer layer) }
+    ensures ends { Ends (draw_outcome file.now name.now layer)
         (record { rack = R.state rack.old; sink = O.state out.old })
         (record { rack = R.state rack.new; sink = O.state out.new }) result }
 {
-    let Ok(picture) = picture_file(alloc, layer) else {
-        return Status::NoMemory;
-    };
-    let Ok(text) = frame_line(alloc, name) else {
-        return Status::NoMemory;
-    };
-    match write_frame(rack, out, name, &picture, &text) {
-        Ok(()) => Status::Done,
-        Err(fault) => status_of_write(fault),
+    match picture_file(alloc, layer) {
+        Ok(picture) => show_picture(alloc, name, &picture, rack, out),
+        Err(DrawsFault::Triangles) => refuse(alloc, too_many_triangles(alloc, file), out),
+        Err(DrawsFault::NoMemory) => Status::NoMemory,
     }
 }

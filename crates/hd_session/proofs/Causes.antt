@@ -13,8 +13,9 @@ use Rattle.hd_retained.specs.Layers.{LayerPrim, Layer}
 use Rattle.hd_retained.specs.Edits.{has_parent, is_full_for, change_prim, with_value, without_value, is_moved_too_deep, edit_layer}
 use Rattle.hd_stack.specs.Stacks.{layer_at, with_layer, edited_at}
 use Rattle.hd_session.specs.Laws.{is_own_cause, StepsHaveOwnCauses}
+use Rattle.hd_session.specs.declared.refusal.Refusal.{Refusal}
 use Rattle.hd_session.specs.States.{State}
-use Rattle.hd_session.specs.Steps.{Step, edit_refusal, change_layers, step}
+use Rattle.hd_session.specs.Steps.{edit_refusal, change_layers, step}
 
 -- where an edit is refused, its step has such a cause
 abbrev IsOwn : {T : Type 0} → Result T EditFault → Type 0
@@ -46,31 +47,31 @@ placed_own : (layers : List Layer) (number : ℕ) (done : Result Layer EditFault
 placed_own layers number (Ok layer) own = tt
 placed_own layers number (Err why) own = own
 
--- the causes of a step
-abbrev HasOwn : Step → Type 0
-HasOwn (Ok done) = Unit {0}
+-- the causes of what comes after a step
+abbrev HasOwn : Result State Refusal → Type 0
+HasOwn (Ok state) = Unit {0}
 HasOwn (Err why) = is_own_cause why ≡ true
 
 change_own : (s : State) (done : Result (List Layer) EditFault) → IsOwn done → HasOwn (change_layers s done)
 change_own s (Ok layers) own = tt
 change_own s (Err why) own = own
 
-chosen_own : (b : Bool) (x y : Step) → HasOwn x → HasOwn y → HasOwn (if b then x else y)
+chosen_own : (b : Bool) (x y : Result State Refusal) → HasOwn x → HasOwn y → HasOwn (if b then x else y)
 chosen_own true x y own other = own
 chosen_own false x y own other = other
 
-step_own : (s : State) (given : commands.Command) → HasOwn (step s given)
-step_own s (command.Layer number) = chosen_own (nat_lt number (length s.layers)) _ _ tt refl
-step_own s (command.Edit edit) = change_own s (edited_at s.layers s.current edit) (placed_own s.layers s.current (edit_layer (layer_at s.layers s.current) edit) (edited_own (layer_at s.layers s.current) edit))
-step_own s command.Commit = tt
-step_own s (command.Dump name) = refl
-step_own s command.Report = refl
-step_own s (command.Start name width height camera) = refl
-step_own s (command.Tiles count) = refl
-step_own s command.Pause = refl
-step_own s command.Resume = refl
-step_own s command.Stop = refl
-step_own s command.Wait = refl
+step_own : (s : State) (given : commands.Command) (tiles : List ℕ) → HasOwn (step s given tiles).after
+step_own s (command.Layer number) tiles = chosen_own (nat_lt number (length s.layers)) _ _ tt refl
+step_own s (command.Edit edit) tiles = change_own s (edited_at s.layers s.current edit) (placed_own s.layers s.current (edit_layer (layer_at s.layers s.current) edit) (edited_own (layer_at s.layers s.current) edit))
+step_own s command.Commit tiles = tt
+step_own s (command.Dump name) tiles = tt
+step_own s command.Report tiles = refl
+step_own s (command.Start name width height camera) tiles = refl
+step_own s (command.Tiles count) tiles = refl
+step_own s command.Pause tiles = refl
+step_own s command.Resume tiles = refl
+step_own s command.Stop tiles = refl
+step_own s command.Wait tiles = refl
 
 pub have_own_causes : StepsHaveOwnCauses
-have_own_causes s given why is = subst HasOwn is (step_own s given)
+have_own_causes s given tiles why is = subst HasOwn is (step_own s given tiles)

@@ -1,42 +1,46 @@
 -- The laws of steps.
-use Rattle.std.proofs.Common.{◌≡◌, ℕ, List, [], Err, refl, sym, subst}
-use Rattle.hd_io.specs.Acts.{Outside, Adds, WroteCut}
-use Rattle.hd_io.specs.Files.{FileList}
-use Rattle.hd_io.proofs.Cuts.{adds_nothing}
+use Rattle.std.proofs.Common.{refl}
 use Rattle.hd_script.specs.declared.command.Command.TheVariants as command
-use Rattle.hd_session.specs.declared.refusal.Refusal.{Refusal}
-use Rattle.hd_session.specs.declared.refusal.Refusal.TheVariants.{Script, Limit, WriteFault, NoMemory}
-use Rattle.hd_session.specs.Laws.{OthersAreLater, RefusedWriteNothing}
-use Rattle.hd_session.specs.Steps.{Step}
-use Rattle.hd_session.specs.Answers.{acts_of}
+use Rattle.hd_session.specs.Laws.{OthersAreLater, StatesIgnoreTiles, SilentWriteNothing, DumpsTellWhatIsCommitted}
 
 pub others_are_later : OthersAreLater
-others_are_later s (command.Layer number) h = cc
-others_are_later s (command.Edit edit) h = cc
-others_are_later s command.Commit h = cc
-others_are_later s (command.Dump name) h = refl
-others_are_later s command.Report h = refl
-others_are_later s (command.Start name width height camera) h = refl
-others_are_later s (command.Tiles count) h = refl
-others_are_later s command.Pause h = refl
-others_are_later s command.Resume h = refl
-others_are_later s command.Stop h = refl
-others_are_later s command.Wait h = refl
+others_are_later s (command.Layer number) tiles h = cc
+others_are_later s (command.Edit edit) tiles h = cc
+others_are_later s command.Commit tiles h = cc
+others_are_later s (command.Dump name) tiles h = cc
+others_are_later s command.Report tiles h = refl
+others_are_later s (command.Start name width height camera) tiles h = refl
+others_are_later s (command.Tiles count) tiles h = refl
+others_are_later s command.Pause tiles h = refl
+others_are_later s command.Resume tiles h = refl
+others_are_later s command.Stop tiles h = refl
+others_are_later s command.Wait tiles h = refl
 
-same_outside : (before now : Outside) → now ≡ before → Adds [] [] before now
-same_outside before now is = subst (λ (o : Outside). Adds [] [] before o) (sym is) (adds_nothing before)
+pub states_ignore_tiles : StatesIgnoreTiles
+states_ignore_tiles s (command.Layer number) one other = refl
+states_ignore_tiles s (command.Edit edit) one other = refl
+states_ignore_tiles s command.Commit one other = refl
+states_ignore_tiles s (command.Dump name) one other = refl
+states_ignore_tiles s command.Report one other = refl
+states_ignore_tiles s (command.Start name width height camera) one other = refl
+states_ignore_tiles s (command.Tiles count) one other = refl
+states_ignore_tiles s command.Pause one other = refl
+states_ignore_tiles s command.Resume one other = refl
+states_ignore_tiles s command.Stop one other = refl
+states_ignore_tiles s command.Wait one other = refl
 
-nothing_cut : (before now : Outside) → WroteCut [] before now → Adds [] [] before now
-nothing_cut before now cut =
-    let A : FileList → Type 0 = λ files. Adds files cut.1 before now in
-    let B : List ℕ → Type 0 = λ text. Adds [] text before now in
-    subst B cut.2.1 (subst A cut.2.0 cut.3)
+pub silent_write_nothing : SilentWriteNothing
+silent_write_nothing s (command.Layer number) tiles h = refl
+silent_write_nothing s (command.Edit edit) tiles h = refl
+silent_write_nothing s command.Commit tiles h = cc
+silent_write_nothing s (command.Dump name) tiles h = cc
+silent_write_nothing s command.Report tiles h = refl
+silent_write_nothing s (command.Start name width height camera) tiles h = refl
+silent_write_nothing s (command.Tiles count) tiles h = refl
+silent_write_nothing s command.Pause tiles h = refl
+silent_write_nothing s command.Resume tiles h = refl
+silent_write_nothing s command.Stop tiles h = refl
+silent_write_nothing s command.Wait tiles h = refl
 
-no_acts : (refused : Step) (why : Refusal) (before now : Outside) → refused ≡ Err why → WroteCut (acts_of refused) before now → Adds [] [] before now
-no_acts refused why before now is cut = nothing_cut before now (subst (λ (s : Step). WroteCut (acts_of s) before now) is cut)
-
-pub refused_write_nothing : RefusedWriteNothing
-refused_write_nothing refused why (Script wrong) before now is h = same_outside before now h.1
-refused_write_nothing refused why (Limit which) before now is h = same_outside before now h.1
-refused_write_nothing refused why WriteFault before now is h = no_acts refused why before now is h.0
-refused_write_nothing refused why NoMemory before now is h = no_acts refused why before now is h.0
+pub tell_what_is_committed : DumpsTellWhatIsCommitted
+tell_what_is_committed s layers name tiles = refl

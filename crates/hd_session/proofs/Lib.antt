@@ -1,7 +1,6 @@
 pub mod Causes
-pub mod ComposedKinds
+pub mod Cuts
+mod Doing
 pub mod LawProofs
-pub mod RowPaths
 pub mod Serving
-pub mod Untouched
-pub mod Updating
+pub mod Sizes

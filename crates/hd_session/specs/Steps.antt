@@ -1,26 +1,30 @@
 -- What each command does to the state and to the outside, or why it is refused.
 use Rattle.std.specs.Prelude.{ℕ, List, [], ◌∷◌, ◌++◌, length, nat_lt, if◌then◌else◌, Result, Ok, Err, codes, decimal}
-use Rattle.hd_io.specs.Acts.{Act, line}
+use Rattle.hd_io.specs.Acts.{Act, file, line}
 use Rattle.hd_scene.specs.Scenes.{saturating_succ}
 use Rattle.hd_script.specs.declared.command.Command as commands
 use Rattle.hd_script.specs.declared.command.Command.TheVariants as command
 use Rattle.hd_retained.specs.declared.fault.EditFault.{EditFault}
 use Rattle.hd_retained.specs.declared.fault.EditFault.TheVariants as fault
 use Rattle.hd_retained.specs.Layers.{Layer}
-use Rattle.hd_stack.specs.Stacks.{composed_scene, edited_at}
+use Rattle.hd_rprim.specs.PrimRows.{rows_of}
+use Rattle.hd_rprim.specs.Shown.{ShownRow}
+use Rattle.hd_dump.specs.Dumps.{dump_text}
+use Rattle.hd_stack.specs.Stacks.{terminal_scene, edited_at}
 use Rattle.hd_session.specs.declared.refusal.ScriptWhy.TheVariants.{NoPrim, PrimThere, UnderItself, NoLayer, Later}
 use Rattle.hd_session.specs.declared.refusal.Refusal.{Refusal}
 use Rattle.hd_session.specs.declared.refusal.Refusal.TheVariants.{Script, Limit, NoMemory}
-use Rattle.hd_session.specs.Rows.{row_count}
 use Rattle.hd_session.specs.States.{State}
 
--- the state after a command, and the acts of the command
-abbrev pub Done : Type 0
-Done = State × List Act
+-- acts, and after them a new state or a refusal; and the counts of tiles that are left for frames that end later
+pub record Step (E : Type 0) : Type 0 where
+  pub acts : List Act
+  pub after : Result State E
+  pub tiles : List ℕ
 
--- what a command does, or why it is refused
-abbrev pub Step : Type 0
-Step = Result Done Refusal
+-- a step that writes nothing
+abbrev pub silent : {E : Type 0} → Result State E → List ℕ → Step E
+silent after tiles = record { acts = []; after = after; tiles = tiles }
 
 -- the refusal of an edit
 abbrev pub edit_refusal : EditFault → Refusal
@@ -31,46 +35,52 @@ edit_refusal (fault.Limit which) = Limit which
 edit_refusal fault.NoMemory = NoMemory
 
 -- later edits change the layer of this number
-abbrev pub choose_layer : State → ℕ → Step
-choose_layer s number =
-    if nat_lt number (length s.layers) then Ok (record { layers = s.layers; current = number; commits = s.commits }, [])
-    else Err (Script NoLayer)
+abbrev pub choose_layer : State → ℕ → Result State Refusal
+choose_layer s number = if nat_lt number (length s.layers) then Ok (record s { current = number }) else Err (Script NoLayer)
 
--- an edit of the current layer, which writes nothing
-abbrev pub change_layers : State → Result (List Layer) EditFault → Step
-change_layers s (Ok layers) = Ok (record { layers = layers; current = s.current; commits = s.commits }, [])
+-- an edit of the current layer
+abbrev pub change_layers : State → Result (List Layer) EditFault → Result State Refusal
+change_layers s (Ok layers) = Ok (record s { layers = layers })
 change_layers s (Err why) = Err (edit_refusal why)
+
+-- the rows of layers
+abbrev pub index : List Layer → List ShownRow
+index layers = rows_of (terminal_scene layers)
+
+-- the layers are committed, and the commit is counted
+abbrev pub after_commit : State → State
+after_commit s = record s { committed = s.layers; commits = saturating_succ s.commits }
 
 -- the line of a commit: its number, and the number of rows
 abbrev pub commit_line : (number rows : ℕ) → List ℕ
 commit_line number rows = codes "commit " ++ decimal number ++ codes " rows " ++ decimal rows ++ codes "\n"
 
--- a commit counts, and tells its line
-abbrev pub commit : State → Step
-commit s =
-    Ok (
-      record { layers = s.layers; current = s.current; commits = saturating_succ s.commits },
-      line (commit_line (saturating_succ s.commits) (row_count (composed_scene s.layers))) ∷ [],
-    )
+-- a commit tells its line
+abbrev pub commit : State → List Act
+commit s = line (commit_line (saturating_succ s.commits) (length (index s.layers))) ∷ []
 
--- what a command does. Dumps, reports and frames are not served yet
-abbrev pub step : State → commands.Command → Step
-step s (command.Layer number) = choose_layer s number
-step s (command.Edit edit) = change_layers s (edited_at s.layers s.current edit)
-step s command.Commit = commit s
-step s (command.Dump name) = Err (Script Later)
-step s command.Report = Err (Script Later)
-step s (command.Start name width height camera) = Err (Script Later)
-step s (command.Tiles count) = Err (Script Later)
-step s command.Pause = Err (Script Later)
-step s command.Resume = Err (Script Later)
-step s command.Stop = Err (Script Later)
-step s command.Wait = Err (Script Later)
+-- the line of a dump
+abbrev pub dump_line : (name : List ℕ) → List ℕ
+dump_line name = codes "dump " ++ name ++ codes "\n"
 
--- what the end of the script does: nothing, where no frame runs
-abbrev pub at_end : State → Done
-at_end s = (s, [])
+-- a dump writes what is committed to a file, and then its line
+abbrev pub dump : State → (name : List ℕ) → List Act
+dump s name = file name (dump_text (index s.committed)) ∷ line (dump_line name) ∷ []
 
--- the end as a step, which is never refused
-abbrev pub finish : State → Step
-finish s = Ok (at_end s)
+-- what a command does, where frames that it ends have these counts of tiles. Reports and frames are not served yet
+abbrev pub step : State → commands.Command → (tiles : List ℕ) → Step Refusal
+step s (command.Layer number) tiles = silent (choose_layer s number) tiles
+step s (command.Edit edit) tiles = silent (change_layers s (edited_at s.layers s.current edit)) tiles
+step s command.Commit tiles = record { acts = commit s; after = Ok (after_commit s); tiles = tiles }
+step s (command.Dump name) tiles = record { acts = dump s name; after = Ok s; tiles = tiles }
+step s command.Report tiles = silent (Err (Script Later)) tiles
+step s (command.Start name width height camera) tiles = silent (Err (Script Later)) tiles
+step s (command.Tiles count) tiles = silent (Err (Script Later)) tiles
+step s command.Pause tiles = silent (Err (Script Later)) tiles
+step s command.Resume tiles = silent (Err (Script Later)) tiles
+step s command.Stop tiles = silent (Err (Script Later)) tiles
+step s command.Wait tiles = silent (Err (Script Later)) tiles
+
+-- what the end of the script does, which is never refused: nothing, where no frame runs
+abbrev pub finish : State → (tiles : List ℕ) → Step Refusal
+finish s tiles = silent (Ok s) tiles

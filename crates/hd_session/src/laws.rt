@@ -1,6 +1,6 @@
 //! What holds of the steps of every session.
 
-ghost use Rattle.hd_session.specs.Laws.{OthersAreLater, RefusedWriteNothing, StepsHaveOwnCauses};
+ghost use Rattle.hd_session.specs.Laws.{OthersAreLater, StepsHaveOwnCauses, StatesIgnoreTiles, SilentWriteNothing, DumpsTellWhatIsCommitted};
 
 /// A command that is not served is refused as one that comes later, whatever the state.
 pub fn other_commands_are_later()
@@ -13,7 +13,17 @@ pub fn steps_have_own_causes()
     ensures { StepsHaveOwnCauses }
 {}
 
-/// A step that is refused writes nothing.
-pub fn refused_steps_write_nothing()
-    ensures { RefusedWriteNothing }
+/// The state after a step, or its refusal, is the same for all counts of tiles.
+pub fn states_ignore_tiles()
+    ensures { StatesIgnoreTiles }
+{}
+
+/// An edit, a choice of a layer and a command that is not served write nothing.
+pub fn silent_commands_write_nothing()
+    ensures { SilentWriteNothing }
+{}
+
+/// A dump tells the layers as they were committed last, whatever was edited since.
+pub fn dumps_tell_what_is_committed()
+    ensures { DumpsTellWhatIsCommitted }
 {}

@@ -1,13 +1,14 @@
 //! A session: the commands of a script, one after the other.
 #![tactic(auto)]
 
-mod changes;
+mod acts;
 mod laws;
-mod lines;
 mod refusal;
-mod rows;
 mod session;
 
-pub use laws::{other_commands_are_later, refused_steps_write_nothing, steps_have_own_causes};
+pub use laws::{
+    dumps_tell_what_is_committed, other_commands_are_later, silent_commands_write_nothing,
+    states_ignore_tiles, steps_have_own_causes,
+};
 pub use refusal::{Refusal, ScriptWhy};
 pub use session::Session;

@@ -3,10 +3,12 @@
 ghost use Rattle.std.specs.Prelude.{◌≡◌};
 ghost use Rattle.hd_session.specs.Steps.{edit_refusal};
 ghost use Rattle.hd_session.specs.Answers.{write_refusal};
+ghost use Rattle.hd_session.specs.declared.refusal.Refusal.TheVariants.{NoMemory};
 
 use hd_io::OutsideFault;
 use hd_layer::Which;
 use hd_retained::EditFault;
+use std::alloc::AllocError;
 
 /// What is wrong with a line of a script, or with its command in the state that it meets.
 #[derive(Clone, Copy, Debug, PartialEq, Eq)]
@@ -66,5 +68,13 @@ impl From<OutsideFault> for Refusal {
             OutsideFault::Failed => Refusal::WriteFault,
             OutsideFault::NoMemory => Refusal::NoMemory,
         }
+    }
+}
+
+impl From<AllocError> for Refusal {
+    ghost from_gives = { λ _ refusal. refusal ≡ NoMemory };
+
+    fn from(_: AllocError) -> Refusal {
+        Refusal::NoMemory
     }
 }

@@ -1,4 +1,4 @@
-//! Files at the limits of their bytes and prims, which are too large to lie in a folder.
+//! Files at the limits of their bytes, prims and triangles, which are too large to lie in a folder.
 
 ghost use Rattle.std.specs.Prelude.{◌≡◌, ◌≢◌, false, All, AllPairs, string_bytes};
 
@@ -46,22 +46,29 @@ fn shelf_of(alloc: Global, layer: &[u8], script: &[u8]) -> Result<MemoryShelf, A
 }
 
 /// The words that ask for the steps of the script over the layer.
-fn step_words(alloc: Global) -> Result<Vec<String>, AllocError> {
-    let command = String::from_str(alloc, "step")?;
-    let layer = String::from_str(alloc, "layer")?;
-    let script = String::from_str(alloc, "script")?;
-    Ok(vec![in alloc; command, layer, script]?)
+const STEP: &[&str] = &["step", "layer", "script"];
+
+/// The words that ask for the picture of the layer.
+const DRAW: &[&str] = &["draw", "layer", "out.ppm"];
+
+fn words_of(alloc: Global, words: &[&str]) -> Result<Vec<String>, AllocError> {
+    let mut all = Vec::new(alloc);
+    for word in words {
+        all.push(String::from_str(alloc, word)?)?;
+    }
+    Ok(all)
 }
 
-/// Whether the steps of a script over a layer end with this status and write these lines.
+/// Whether words over a layer and a script end with this status and write these lines.
 fn ends(
     alloc: Global,
+    words: &[&str],
     layer: &[u8],
     script: &[u8],
     status: u8,
     lines: &[u8],
 ) -> Result<bool, AllocError> {
-    let words = step_words(alloc)?;
+    let words = words_of(alloc, words)?;
     let mut shelf = shelf_of(alloc, layer, script)?;
     let mut rack = MemoryRack::new(alloc, Vec::new(alloc), AMPLE);
     let mut out = MemorySink::new(alloc, Vec::new(alloc), AMPLE);
@@ -83,9 +90,9 @@ fn byte_limit_holds(alloc: Global) -> Result<bool, AllocError> {
     let layer = b"fault limit bytes 1048576 at layer\n".as_slice();
     let script = b"fault limit bytes 1048576 at script\n".as_slice();
     Ok(
-        ends(alloc, &full, &full, 0, b"".as_slice())?
-            && ends(alloc, &full, &past, 4, script)?
-            && ends(alloc, &past, &past, 4, layer)?,
+        ends(alloc, STEP, &full, &full, 0, b"".as_slice())?
+            && ends(alloc, STEP, &full, &past, 4, script)?
+            && ends(alloc, STEP, &past, &past, 4, layer)?,
     )
 }
 
@@ -109,10 +116,61 @@ fn edits_are_counted(alloc: Global) -> Result<bool, AllocError> {
     let layer = almost_full_layer(alloc)?;
     let script = b"def Mesh /a\n\ndef Mesh /p00000\ndef Mesh /b\n".as_slice();
     let lines = b"fault limit prims 65536 at script line 4\n".as_slice();
-    ends(alloc, &layer, script, 4, lines)
+    ends(alloc, STEP, &layer, script, 4, lines)
 }
 
 #[test]
 fn an_edit_leaves_at_most_65536_prims(rt: HostRuntime) {
     assert!(rt; edits_are_counted(rt.alloc()) == Ok(true));
+}
+
+/// Adds a mesh of one face, which has so many corners, each of them the one point.
+fn push_face(
+    alloc: Global,
+    text: &mut Vec<u8>,
+    name: &str,
+    corners: u32,
+) -> Result<(), AllocError> {
+    let head = format!(in alloc;
+        "def Mesh \"{name}\" {{ point3f[] points = [(0, 0, 0)] int[] faceVertexCounts = [{corners}]\n"
+    )?;
+    text.extend_from_slice(head.as_bytes())?;
+    text.extend_from_slice(b"int[] faceVertexIndices = [")?;
+    for _corner in 0..corners {
+        text.extend_from_slice(b"0,")?;
+    }
+    text.extend_from_slice(b"] }\n")
+}
+
+/// A layer that draws 16 times 65,534 triangles, and two less than so many more.
+fn triangles(alloc: Global, corners: u32) -> Result<Vec<u8>, AllocError> {
+    let mut text = Vec::from_slice(alloc, b"#usda 1.0\n".as_slice())?;
+    text.extend_from_slice(b"def PointInstancer \"I\" { rel prototypes = </P>\n")?;
+    text.extend_from_slice(
+        b"int[] protoIndices = [0,0,0,0,0,0,0,0,0,0,0,0,0,0,0,0] point3f[] positions = [",
+    )?;
+    for _place in 0..16_u32 {
+        text.extend_from_slice(b"(0, 0, 0), ")?;
+    }
+    text.extend_from_slice(b"] }\n")?;
+    push_face(alloc, &mut text, "P", 65_536)?;
+    push_face(alloc, &mut text, "Q", corners)?;
+    Ok(text)
+}
+
+/// Whether a picture draws 1,048,576 triangles at most.
+fn triangle_limit_holds(alloc: Global) -> Result<bool, AllocError> {
+    let full = triangles(alloc, 34)?;
+    let past = triangles(alloc, 35)?;
+    let frame = b"frame out.ppm converged 16 of 16\n".as_slice();
+    let fault = b"fault limit triangles 1048576 at layer\n".as_slice();
+    Ok(
+        ends(alloc, DRAW, &full, b"".as_slice(), 0, frame)?
+            && ends(alloc, DRAW, &past, b"".as_slice(), 4, fault)?,
+    )
+}
+
+#[test]
+fn a_picture_draws_at_most_1048576_triangles(rt: HostRuntime) {
+    assert!(rt; triangle_limit_holds(rt.alloc()) == Ok(true));
 }

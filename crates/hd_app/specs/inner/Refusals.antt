@@ -1,5 +1,5 @@
 -- Why the files of a command were not read, step by step.
-use Rattle.std.specs.Prelude.{◌≡◌, ◌+◌, ◌≤◌, ◌⊎◌, ℕ, List, take, slice_get, Some, IfSome, max, Err}
+use Rattle.std.specs.Prelude.{◌≡◌, ◌+◌, ◌≤◌, ◌⊎◌, ℕ, List, [], take, slice_get, Some, IfSome, max, Err}
 use Rattle.hd_io.specs.Causes.{Rose}
 use Rattle.hd_app.specs.declared.status.Status.{Status}
 use Rattle.hd_app.specs.declared.status.Status.TheVariants.{Done, Usage, Layer, Script, Limit, ReadFault, WriteFault, NoMemory}
@@ -30,12 +30,11 @@ pub record ReadsWithin (before now : ShelfState) : Type 0 where
   pub files : now.files ≡ before.files
   pub taken : now.taken ≤ max before.taken (byte_limit + 1)
 
--- a limit that the file of this name, which is open, passes: that of its bytes, of which one more was taken, or one in a line of
--- its text
-abbrev pub FilePassesLimit : List ℕ → ShelfState → Place → Which → ℕ → Type 0
-FilePassesLimit name shelf (File file) which count = (file ≡ name) × (which ≡ Bytes) × (count ≡ byte_limit) × TookTooMuch shelf file
-FilePassesLimit name shelf (Line file line) which count = (file ≡ name) × (count ≡ limit_of which) × IsOpen shelf file
-FilePassesLimit name shelf Words which count = ⊥
+-- a limit that the text of this file, which is open, passes: that of its bytes, of which one more was taken, or one in a line
+abbrev pub TextPassesLimit : List ℕ → ShelfState → Place → Which → ℕ → Type 0
+TextPassesLimit name shelf (File file) which count = (file ≡ name) × (which ≡ Bytes) × (count ≡ byte_limit) × TookTooMuch shelf file
+TextPassesLimit name shelf (Line file line) which count = (file ≡ name) × (count ≡ limit_of which) × IsOpen shelf file
+TextPassesLimit name shelf Words which count = ⊥
 
 -- why the layer of this name was refused
 abbrev pub RefusesLayer : List ℕ → (before now : ShelfState) → Status → Type 0
@@ -43,7 +42,7 @@ RefusesLayer name before now (ReadFault file) = (file ≡ name) × FailedAt name
 RefusesLayer name before now (Layer file line why) =
     (now.faults ≡ before.faults) × (file ≡ name) × IsOpen now file × IfSome before.files (λ files. layer_in files name ≡ Err (Layer file line why))
 RefusesLayer name before now (Limit place which count) =
-    (now.faults ≡ before.faults) × FilePassesLimit name now place which count × IfSome before.files (λ files. layer_in files name ≡ Err (Limit place which count))
+    (now.faults ≡ before.faults) × TextPassesLimit name now place which count × IfSome before.files (λ files. layer_in files name ≡ Err (Limit place which count))
 RefusesLayer name before now NoMemory = now.faults ≡ before.faults
 RefusesLayer name before now (Script line cause) = ⊥
 RefusesLayer name before now Done = ⊥
@@ -103,7 +102,7 @@ RefusesScript name before now WriteFault = ⊥
 pub record TellsRefusal (program : Program) (before now : ShelfState) (status : Status) : Type 0 where
   pub faults : now.faults ≡ before.faults
   pub answer : IsAnswerTo (Some program) now status
-  pub told : IfSome before.files (λ files. outcome_of files (Some program) ≡ refusal_outcome status)
+  pub told : IfSome before.files (λ files. outcome_of files (Some program) [] ≡ refusal_outcome status)
 
 -- why the files of a command were not read
 abbrev pub RefusesFiles : Program → (before now : ShelfState) → Status → Type 0

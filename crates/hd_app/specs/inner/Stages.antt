@@ -1,5 +1,5 @@
 -- How the stages of a run end: as they were to, or interrupted.
-use Rattle.std.specs.Prelude.{◌≡◌, ◌⊎◌, ℕ, List, Option, IfSome, IsSomeAnd}
+use Rattle.std.specs.Prelude.{◌≡◌, ◌⊎◌, ℕ, List, [], Option, IfSome, IsSomeAnd}
 use Rattle.hd_io.specs.declared.fault.OutsideFault.{OutsideFault}
 use Rattle.hd_io.specs.declared.fault.OutsideFault.TheVariants as faults
 use Rattle.hd_io.specs.Acts.{Outside, WroteCut, NoFault, WriteFailed}
@@ -37,7 +37,7 @@ Ends outcome before now status = EndsWhole outcome before now status ⊎ (Breaks
 pub record RunsByFiles (program : Option Program) (shelf_before shelf_now : ShelfState) (before now : Outside) (status : Status) : Type 0 where
   pub due : Outcome
   pub ends : Ends due before now status
-  pub told : IfSome shelf_before.files (λ files. outcome_of files program ≡ due)
+  pub told : IfSome shelf_before.files (λ files. outcome_of files program [] ≡ due)
   pub faults : shelf_now.faults ≡ shelf_before.faults
   pub answer : IsAnswerTo program shelf_now status
   pub read : IsReadFault status → ⊥

@@ -1,5 +1,5 @@
 use Rattle.std.proofs.lemmas.Result.{err_from_is_err_and}
-use Rattle.hd_app.proofs.CutLemmas.{file_cut, line_cut}
+use Rattle.hd_session.proofs.Cuts.{file_cut, line_cut}
 use Rattle.hd_app.proofs.writing.write_frame.Goals as goal
 
 pub returns-in_err-write_file-clause-cut : goal.returns-in_err-write_file-clause-cut
