@@ -15,8 +15,8 @@ use Rattle.hd_layer.specs.Limits.{limit_of}
 use Rattle.hd_io.specs.Acts.{file, line}
 use Rattle.hd_io.specs.Files.{FileMap, bytes_of}
 use Rattle.hd_retained.specs.Layers.{layer_of}
+use Rattle.hd_attributes.specs.Rows.{index}
 use Rattle.hd_session.specs.States.{opening_state}
-use Rattle.hd_session.specs.Steps.{index}
 use Rattle.hd_app.specs.declared.status.Status.{Status}
 use Rattle.hd_app.specs.declared.status.Status.TheVariants.{Done, Usage, Layer, Limit, ReadFault}
 use Rattle.hd_app.specs.declared.status.Place.TheVariants.{Words, File, Line}

@@ -8,9 +8,11 @@ ghost use Rattle.hd_picture.specs.define.Pixels.{picture};
 ghost use Rattle.hd_picture.specs.Ppm.{ppm};
 ghost use Rattle.hd_picture.specs.raster.Tiles.{tile, tile_count};
 ghost use Rattle.hd_retained.specs.Layers.{layer_of};
-ghost use Rattle.hd_stack.specs.Stacks.{terminal_scene};
+ghost use Rattle.hd_rprim.specs.PrimRows.{rows_of};
+ghost use Rattle.hd_attributes.specs.Rows.{index};
 ghost use Rattle.hd_app.specs.Outcomes.{layer_frame, triangle_limit};
 
+use hd_attributes::rows_are_of_attributes;
 use hd_draws::DrawsFault;
 use hd_index::RenderIndex;
 use hd_layer::LayerSpec;
@@ -35,11 +37,12 @@ const BLACK: Rgb = Rgb { r: 0, g: 0, b: 0 };
 /// The render index of one layer alone.
 fn index_of(alloc: Global, layer: LayerSpec) -> Result<RenderIndex, AllocError>
     requires { IsTrue (is_layer layer) }
-    ensures { IfOk result (λ index. index ≡ terminal_scene (layer_of layer ∷ [])) }
+    ensures { IfOk result (λ shown. rows_of shown ≡ index (layer_of layer ∷ [])) }
 {
     let mut stack = Stack::new(alloc, vec![in alloc; layer]?)?;
     let mut index = RenderIndex::new(alloc)?;
     stack.is_in_step();
+    rows_are_of_attributes();
     index.populate(alloc, &mut stack, &mut Plain::new())?;
     Ok(index)
 }

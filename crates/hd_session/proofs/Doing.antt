@@ -11,9 +11,11 @@ use Rattle.hd_script.specs.declared.command.Command as commands
 use Rattle.hd_script.specs.declared.command.Command.TheVariants as command
 use Rattle.hd_scene.specs.Scenes.{Scene, saturating_succ}
 use Rattle.hd_rprim.specs.PrimRows.{rows_of}
+use Rattle.hd_rprim.specs.Shown.{ShownRow}
+use Rattle.hd_attributes.specs.Rows.{index}
 use Rattle.hd_dump.specs.Dumps.{dump_text}
 use Rattle.hd_retained.specs.Layers.{Layer}
-use Rattle.hd_stack.specs.Stacks.{terminal_scene, edited_at}
+use Rattle.hd_stack.specs.Stacks.{edited_at}
 use Rattle.hd_session.specs.declared.refusal.Refusal.{Refusal}
 use Rattle.hd_session.specs.declared.refusal.Refusal.TheVariants.{Script}
 use Rattle.hd_session.specs.declared.refusal.ScriptWhy.TheVariants.{NoLayer}
@@ -57,13 +59,13 @@ line_written text rack before now told =
       is_open = refl;
     }
 
-pub commit_done : (s state : State) (given : commands.Command) (index : Scene) (layers committed : List Layer) (commits : ℕ) (rack : RackState) (before now : SinkState)
-    → state ≡ s → given ≡ command.Commit → index ≡ terminal_scene state.layers → layers ≡ state.layers → committed ≡ state.layers → commits ≡ saturating_succ state.commits
-    → now.text ≡ with_line (next_line state index) before.text → now.faults ≡ before.faults
+pub commit_done : (s state : State) (given : commands.Command) (scene : Scene) (layers committed : List Layer) (commits : ℕ) (rack : RackState) (before now : SinkState)
+    → state ≡ s → given ≡ command.Commit → rows_of scene ≡ index state.layers → layers ≡ state.layers → committed ≡ state.layers → commits ≡ saturating_succ state.commits
+    → now.text ≡ with_line (next_line state (rows_of scene)) before.text → now.faults ≡ before.faults
     → Does (step s given []) (record { layers = layers; committed = committed; current = state.current; commits = commits }) (record { rack = rack; sink = before }) (record { rack = rack; sink = now })
-commit_done s state given index layers committed commits rack before now same is shown same_layers same_committed counted told kept =
+commit_done s state given scene layers committed commits rack before now same is shown same_layers same_committed counted told kept =
     let after : State = record { layers = layers; committed = committed; current = state.current; commits = commits } in
-    let P : Scene → Type 0 = λ x. now.text ≡ with_line (next_line state x) before.text in
+    let P : List ShownRow → Type 0 = λ x. now.text ≡ with_line (next_line state x) before.text in
     let is_after : after ≡ record { layers = state.layers; committed = state.layers; current = state.current; commits = saturating_succ state.commits } =
     ap (λ (x : List Layer). record { layers = x; committed = committed; current = state.current; commits = commits }) same_layers
     ∙ ap (λ (x : List Layer). record { layers = state.layers; committed = x; current = state.current; commits = commits }) same_committed
@@ -71,13 +73,13 @@ commit_done s state given index layers committed commits rack before now same is
     same_end s state given command.Commit after (record { rack = rack; sink = before }) (record { rack = rack; sink = now }) same is
     (record {
       is = ap (λ (x : State). Ok x) (sym is_after);
-      written = line_written (next_line state (terminal_scene state.layers)) rack before now (subst P shown told);
+      written = line_written (next_line state (index state.layers)) rack before now (subst P shown told);
       faults = record { rack = refl; sink = kept };
     })
 
-pub dump_done : (s state : State) (given : commands.Command) (name : List ℕ) (index : Scene) (before now : Outside)
-    → state ≡ s → given ≡ command.Dump name → index ≡ terminal_scene state.committed → Wrote (file name (dump_text (rows_of index)) ∷ line (dump_line name) ∷ []) before now → NoFault before now
+pub dump_done : (s state : State) (given : commands.Command) (name : List ℕ) (scene : Scene) (before now : Outside)
+    → state ≡ s → given ≡ command.Dump name → rows_of scene ≡ index state.committed → Wrote (file name (dump_text (rows_of scene)) ∷ line (dump_line name) ∷ []) before now → NoFault before now
     → Does (step s given []) state before now
-dump_done s state given name index before now same is shown written kept =
-    let P : Scene → Type 0 = λ x. Wrote (file name (dump_text (rows_of x)) ∷ line (dump_line name) ∷ []) before now in
+dump_done s state given name scene before now same is shown written kept =
+    let P : List ShownRow → Type 0 = λ x. Wrote (file name (dump_text x) ∷ line (dump_line name) ∷ []) before now in
     same_end s state given (command.Dump name) state before now same is (record { is = refl; written = subst P shown written; faults = kept })

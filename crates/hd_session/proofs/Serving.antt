@@ -13,12 +13,14 @@ use Rattle.hd_script.specs.declared.command.Command as commands
 use Rattle.hd_script.specs.declared.command.Command.TheVariants as command
 use Rattle.hd_scene.specs.Scenes.{Scene, saturating_succ}
 use Rattle.hd_rprim.specs.PrimRows.{rows_of}
+use Rattle.hd_rprim.specs.Shown.{ShownRow}
+use Rattle.hd_attributes.specs.Rows.{index}
 use Rattle.hd_dump.specs.Dumps.{dump_text}
 use Rattle.hd_retained.specs.declared.fault.EditFault.{EditFault}
 use Rattle.hd_retained.specs.declared.fault.EditFault.TheVariants as edit_fault
 use Rattle.hd_retained.specs.Edits.{IsRefusal}
 use Rattle.hd_retained.specs.Layers.{Layer}
-use Rattle.hd_stack.specs.Stacks.{terminal_scene, edited_at}
+use Rattle.hd_stack.specs.Stacks.{edited_at}
 use Rattle.hd_session.specs.declared.refusal.Refusal.{Refusal}
 use Rattle.hd_session.specs.declared.refusal.Refusal.TheVariants.{NoMemory}
 use Rattle.hd_session.specs.States.{State}
@@ -64,19 +66,19 @@ edit_refused s state given edit fault o same is why =
     same_step s state given (command.Edit edit) o o (edit_refusal fault) same is (not_changed state (edited_at state.layers state.current edit) fault o why)
 
 -- the line of the next commit
-abbrev pub next_line : State → Scene → List ℕ
-next_line s index = commit_line (saturating_succ s.commits) (length (rows_of index))
+abbrev pub next_line : State → List ShownRow → List ℕ
+next_line s rows = commit_line (saturating_succ s.commits) (length rows)
 
-not_committed : {T : Type 0} (s : State) (rack : RackState) (before now : SinkState) (fault : OutsideFault) → CutLine (next_line s (terminal_scene s.layers)) before.text now.text → HasCause {T = T} before.faults now.faults (Err fault)
+not_committed : {T : Type 0} (s : State) (rack : RackState) (before now : SinkState) (fault : OutsideFault) → CutLine (next_line s (index s.layers)) before.text now.text → HasCause {T = T} before.faults now.faults (Err fault)
     → Refuses (step s command.Commit []) (record { rack = rack; sink = before }) (record { rack = rack; sink = now }) (write_refusal fault)
 not_committed s rack before now outside_fault.Failed cut cause = (only_line_cut _ rack before now cut, inr (cause.failed refl))
 not_committed s rack before now outside_fault.NoMemory cut cause = (only_line_cut _ rack before now cut, record { rack = refl; sink = cause.refused refl })
 
-pub commit_refused : {T : Type 0} (s state : State) (given : commands.Command) (index : Scene) (rack : RackState) (before now : SinkState) (fault : OutsideFault)
-    → state ≡ s → given ≡ command.Commit → index ≡ terminal_scene state.layers → CutLine (next_line state index) before.text now.text → HasCause {T = T} before.faults now.faults (Err fault)
+pub commit_refused : {T : Type 0} (s state : State) (given : commands.Command) (scene : Scene) (rack : RackState) (before now : SinkState) (fault : OutsideFault)
+    → state ≡ s → given ≡ command.Commit → rows_of scene ≡ index state.layers → CutLine (next_line state (rows_of scene)) before.text now.text → HasCause {T = T} before.faults now.faults (Err fault)
     → Refuses (step s given []) (record { rack = rack; sink = before }) (record { rack = rack; sink = now }) (write_refusal fault)
-commit_refused s state given index rack before now fault same is shown cut cause =
-    let P : Scene → Type 0 = λ x. CutLine (next_line state x) before.text now.text in
+commit_refused s state given scene rack before now fault same is shown cut cause =
+    let P : List ShownRow → Type 0 = λ x. CutLine (next_line state x) before.text now.text in
     same_step s state given command.Commit (record { rack = rack; sink = before }) (record { rack = rack; sink = now }) (write_refusal fault) same is
     (not_committed state rack before now fault (subst P shown cut) cause)
 
@@ -84,9 +86,9 @@ not_dumped : (s : State) (name : List ℕ) (before now : Outside) (fault : Outsi
 not_dumped s name before now outside_fault.Failed cut cause = (cut, cause)
 not_dumped s name before now outside_fault.NoMemory cut cause = (cut, cause)
 
-pub dump_refused : (s state : State) (given : commands.Command) (name : List ℕ) (index : Scene) (before now : Outside) (fault : OutsideFault)
-    → state ≡ s → given ≡ command.Dump name → index ≡ terminal_scene state.committed → WroteCut (file name (dump_text (rows_of index)) ∷ line (dump_line name) ∷ []) before now → WriteCause before now fault
+pub dump_refused : (s state : State) (given : commands.Command) (name : List ℕ) (scene : Scene) (before now : Outside) (fault : OutsideFault)
+    → state ≡ s → given ≡ command.Dump name → rows_of scene ≡ index state.committed → WroteCut (file name (dump_text (rows_of scene)) ∷ line (dump_line name) ∷ []) before now → WriteCause before now fault
     → Refuses (step s given []) before now (write_refusal fault)
-dump_refused s state given name index before now fault same is shown cut cause =
-    let P : Scene → Type 0 = λ x. WroteCut (file name (dump_text (rows_of x)) ∷ line (dump_line name) ∷ []) before now in
+dump_refused s state given name scene before now fault same is shown cut cause =
+    let P : List ShownRow → Type 0 = λ x. WroteCut (file name (dump_text x) ∷ line (dump_line name) ∷ []) before now in
     same_step s state given (command.Dump name) before now (write_refusal fault) same is (not_dumped state name before now fault (subst P shown cut) cause)

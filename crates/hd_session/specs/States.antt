@@ -4,7 +4,8 @@ use Rattle.std.specs.Coded.{Coded, code_by, coded×, coded_ℕ, coded_list, code
 use Rattle.hd_layer.specs.declared.spec.LayerSpec.{LayerSpec}
 use Rattle.hd_retained.specs.Layers.{Layer, layer_code, layer_of}
 use Rattle.hd_scene.specs.Scenes.{Scene}
-use Rattle.hd_stack.specs.Stacks.{terminal_scene}
+use Rattle.hd_rprim.specs.PrimRows.{rows_of}
+use Rattle.hd_attributes.specs.Rows.{index}
 
 -- the layers, of which the first is the strongest; the layers as they were committed last; the number of the layer that edits
 -- change; and the number of commits
@@ -31,7 +32,7 @@ pub record Session : Type 0 where
 abbrev pub session_code : Coded Session
 session_code = code_by (State × Bool) (coded× state_code coded_bool) (λ s. (s.state, s.is_spent)) (λ p. record { state = p.0; is_spent = p.1 }) (λ _. refl)
 
--- the number is that of a layer, and the index shows the layers that were committed last
-pub record IsKept (layers committed : List Layer) (current : ℕ) (index : Scene) : Type 0 where
+-- the number is that of a layer, and the rows of the index's scene are those of the layers that were committed last
+pub record IsKept (layers committed : List Layer) (current : ℕ) (scene : Scene) : Type 0 where
   pub below : current < length layers
-  pub shows : index ≡ terminal_scene committed
+  pub shows : rows_of scene ≡ index committed

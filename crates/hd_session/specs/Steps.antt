@@ -7,10 +7,9 @@ use Rattle.hd_script.specs.declared.command.Command.TheVariants as command
 use Rattle.hd_retained.specs.declared.fault.EditFault.{EditFault}
 use Rattle.hd_retained.specs.declared.fault.EditFault.TheVariants as fault
 use Rattle.hd_retained.specs.Layers.{Layer}
-use Rattle.hd_rprim.specs.PrimRows.{rows_of}
-use Rattle.hd_rprim.specs.Shown.{ShownRow}
+use Rattle.hd_attributes.specs.Rows.{index}
 use Rattle.hd_dump.specs.Dumps.{dump_text}
-use Rattle.hd_stack.specs.Stacks.{terminal_scene, edited_at}
+use Rattle.hd_stack.specs.Stacks.{edited_at}
 use Rattle.hd_session.specs.declared.refusal.ScriptWhy.TheVariants.{NoPrim, PrimThere, UnderItself, NoLayer, Later}
 use Rattle.hd_session.specs.declared.refusal.Refusal.{Refusal}
 use Rattle.hd_session.specs.declared.refusal.Refusal.TheVariants.{Script, Limit, NoMemory}
@@ -42,10 +41,6 @@ choose_layer s number = if nat_lt number (length s.layers) then Ok (record s { c
 abbrev pub change_layers : State → Result (List Layer) EditFault → Result State Refusal
 change_layers s (Ok layers) = Ok (record s { layers = layers })
 change_layers s (Err why) = Err (edit_refusal why)
-
--- the rows of layers
-abbrev pub index : List Layer → List ShownRow
-index layers = rows_of (terminal_scene layers)
 
 -- the layers are committed, and the commit is counted
 abbrev pub after_commit : State → State

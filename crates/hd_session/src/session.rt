@@ -3,7 +3,8 @@
 ghost use Rattle.std.specs.Prelude.{◌≡◌, ◌<◌, ◌≤◌, [], true, false, All, IfOk, OnOk, IfErr, OnErr, IsTrue, vec_len};
 ghost use Rattle.hd_layer.specs.WellFormed.{is_layer};
 ghost use Rattle.hd_script.specs.WellFormed.{is_command};
-ghost use Rattle.hd_stack.specs.Stacks.{terminal_scene};
+ghost use Rattle.hd_rprim.specs.PrimRows.{rows_of};
+ghost use Rattle.hd_attributes.specs.Rows.{index};
 ghost use Rattle.hd_session.specs.Answers.{Does, Refuses};
 ghost use Rattle.hd_session.specs.declared.refusal.Refusal.TheVariants.{Script};
 ghost use Rattle.hd_session.specs.declared.refusal.ScriptWhy.TheVariants.{NoLayer};
@@ -12,6 +13,7 @@ ghost use Rattle.hd_session.specs.Steps.{step, finish};
 
 use crate::acts::{commit, dump};
 use crate::refusal::{Refusal, ScriptWhy};
+use hd_attributes::rows_are_of_attributes;
 use hd_index::RenderIndex;
 use hd_io::{Rack, Sink};
 use hd_layer::LayerSpec;
@@ -152,11 +154,12 @@ fn index_of<Y: Syncer>(
     stack: &mut Stack,
     syncer: &mut Y,
 ) -> Result<RenderIndex, AllocError>
-    ensures index { IfOk result (λ index. index ≡ terminal_scene stack.old.layers) }
+    ensures rows { IfOk result (λ shown. rows_of shown ≡ index stack.old.layers) }
     ensures same_layers { stack.new.layers ≡ stack.old.layers }
 {
-    // At most eight sound layers, which have few enough prims.
+    // At most eight sound layers, which have few enough prims, and whose attributes give the rows of their scene.
     stack.is_in_step();
+    rows_are_of_attributes();
     let _ = stack.layers();
     let mut index = RenderIndex::new(alloc)?;
     index.populate(alloc, stack, syncer)?;

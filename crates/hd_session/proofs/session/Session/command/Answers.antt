@@ -24,7 +24,7 @@ pub returns-in_err-commit-in-Commit-clause-refusal : goal.returns-in_err-commit-
 returns-in_err-commit-in-Commit-clause-refusal g c =
     let state : State = record { layers = c.self.inside.stack.layers; committed = c.self.inside.committed.value.layers; current = c.self.inside.current; commits = c.self.inside.commits } in
     let p = err_from_is_err_and c.from_residual-in_err-commit-in-Commit.result c.from_residual-in_err-commit-in-Commit.ensures.1 in
-    rw (p.1, p.2) (commit_refused c.args.self.now.state state c.args.command.now c.in_ok-index-in-Commit.index _ _ _ c.in_err-commit-in-Commit.field-0.0 (ap (λ (s : Session). s.state) c.self.view_is) c.in-Commit.is c.in_ok-index-in-Commit.ensures.index c.in_err-commit-in-Commit.ensures.cut c.in_err-commit-in-Commit.ensures.cause)
+    rw (p.1, p.2) (commit_refused c.args.self.now.state state c.args.command.now c.in_ok-index-in-Commit.index _ _ _ c.in_err-commit-in-Commit.field-0.0 (ap (λ (s : Session). s.state) c.self.view_is) c.in-Commit.is c.in_ok-index-in-Commit.ensures.rows c.in_err-commit-in-Commit.ensures.cut c.in_err-commit-in-Commit.ensures.cause)
 
 pub returns-in_err-dump-in-Dump-clause-refusal : goal.returns-in_err-dump-in-Dump-clause-refusal
 returns-in_err-dump-in-Dump-clause-refusal g c =
@@ -42,7 +42,7 @@ returns-clause-done g c =
       | in-Edit+in_ok-edit-in-Edit w ↦
           rw (w.rack-is, w.out-is, w.self-inside-is) (edit_done c.args.self.now.state state c.args.command.now w.in-Edit.edit _ _ same w.in-Edit.is w.in_ok-edit-in-Edit.ensures.done)
       | in-Commit+in_ok-index-in-Commit+in_ok-commit-in-Commit w ↦
-          rw (w.rack-is, w.out-is, w.self-inside-is) (commit_done c.args.self.now.state state c.args.command.now w.in_ok-index-in-Commit.index _ w.of-committed.result.value.layers _ _ (g.O.Sink.state c.args.out.now) (g.O.Sink.state w.commit.new.out) same w.in-Commit.is w.in_ok-index-in-Commit.ensures.index w.in_ok-index-in-Commit.ensures.same_layers (ap (λ (x : Stacked). x.layers) w.of-committed.ensures) w.in_ok-commit-in-Commit.ensures.counted w.in_ok-commit-in-Commit.ensures.written w.in_ok-commit-in-Commit.ensures.cause.kept)
+          rw (w.rack-is, w.out-is, w.self-inside-is) (commit_done c.args.self.now.state state c.args.command.now w.in_ok-index-in-Commit.index _ w.of-committed.result.value.layers _ _ (g.O.Sink.state c.args.out.now) (g.O.Sink.state w.commit.new.out) same w.in-Commit.is w.in_ok-index-in-Commit.ensures.rows w.in_ok-index-in-Commit.ensures.same_layers (ap (λ (x : Stacked). x.layers) w.of-committed.ensures) w.in_ok-commit-in-Commit.ensures.counted w.in_ok-commit-in-Commit.ensures.written w.in_ok-commit-in-Commit.ensures.cause.kept)
       | in-Dump+in_ok-dump-in-Dump w ↦
           rw (w.rack-is, w.out-is, w.self-inside-is) (dump_done c.args.self.now.state state c.args.command.now w.text.result.now c.self.inside.index _ _ same (w.in-Dump.is ∙ ap (λ n. command.Dump n) (sym w.text.ensures)) c.self.invariant.shows w.in_ok-dump-in-Dump.ensures.written w.in_ok-dump-in-Dump.ensures.kept)
     ]
